@@ -1,9 +1,9 @@
 -- In every run, a packet that came when a share had its unit is processed at its member.
-use Rattle.nf_net.proofs.Words.{◌≡◌, ℕ, ◌+◌, ◌≤◌, Bool, true, false, Some, List, [], ◌∷◌, ◌++◌, length, append_assoc, refl, sym, ap, ◌∙◌, arith, if◌then◌else◌}
-use Rattle.nf_net.proofs.Words.{◌==◌, is_some, filter, Global, nat_tests, Output, FunctionLaws, Semantics, same_unit_equiv, Msg, Note, instance_node, Choice}
-use Rattle.nf_net.proofs.Words.{Network, IsRun, run, Ran, ran_of, Config, Node, times_installed, is_of, IsInput, packet_numbered, arrivals_in, dones_in}
-use Rattle.nf_net.proofs.Words.{installs_in, node_step, node_ready, first_owner, members, member_for, unit_numbered, done-append, is_sys, Given, is_diverted, S}
-use Rattle.nf_net.proofs.Words.{A, by_node, came_by, Joined, by_node-append, AllApart, Runs, run_beside, same_times, given, Unit, split}
+use Rattle.nf_net.proofs.Words.{◌≡◌, ℕ, ◌+◌, ◌≤◌, Bool, true, Some, List, [], ◌∷◌, ◌++◌, length, append_assoc, refl, sym, ap, ◌∙◌, arith, if◌then◌else◌, ◌==◌}
+use Rattle.nf_net.proofs.Words.{is_some, filter, Global, nat_tests, Output, FunctionLaws, Semantics, same_unit_equiv, Msg, Note, instance_node, Choice, Network}
+use Rattle.nf_net.proofs.Words.{IsRun, run, Ran, ran_of, Config, Node, times_installed, is_of, IsInput, packet_numbered, arrivals_in, dones_in, installs_in}
+use Rattle.nf_net.proofs.Words.{node_step, node_ready, first_owner, members, member_for, unit_numbered, done-append, is_sys, Given, is_diverted, S, A, by_node}
+use Rattle.nf_net.proofs.Words.{came_by, Joined, by_node-append, AllApart, Runs, run_beside, same_times, given, Unit, split}
 use Rattle.proof_machines.proofs.unit.Stages as stages
 use Rattle.net_world.specs.Fold.{times}
 use Rattle.net_world.specs.Places.{AreAtMembers}
@@ -19,10 +19,8 @@ use Rattle.nf_net.proofs.UnitShares.{IsOpenShare, open_installed, member_is}
 
 pub times_those : (mine : ℕ → Bool) (p : ℕ) (qs : List ℕ) → times p (filter mine qs) ≤ times p qs
 times_those mine p [] = omega arith
-times_those mine p (q ∷ qs) = elim (mine q) as (λ b. times p (if b then q ∷ filter mine qs else filter mine qs) ≤ (if p == q then 1 else 0) + times p qs) [
-  | true ↦ (let rest = times_those mine p qs in omega (arith, rest))
-  | false ↦ (let rest = times_those mine p qs in omega (arith, rest))
-]
+times_those mine p (q ∷ qs) = split (mine q) (λ b. times p (if b then q ∷ filter mine qs else filter mine qs) ≤ (if p == q then 1 else 0) + times p qs)
+    (λ _. (let rest = times_those mine p qs in omega (arith, rest))) (λ _. (let rest = times_those mine p qs in omega (arith, rest)))
 
 module _ {F R : Type 0} (f : Semantics R) (c : Config) (items : List Msg) (is : IsInput f.kind c items) (n : ℕ) (count_is : n ≡ length c.names + 2)
     (w : Network (Node F R) Msg Note) (j : Joined f (given f c items is) n w) (apart : AllApart j.nodes.controller.operations)

@@ -1,7 +1,7 @@
 -- What the controller's step sends for copies of units is known, where what it takes was; and a copy is answered where its destination has kept what
 -- came.
 use Rattle.nf_net.proofs.Words.{◌≡◌, ℕ, Bool, true, false, Option, Some, None, List, [], ◌∷◌, ◌++◌, refl, sym, ◌∙◌, if◌then◌else◌, ◌==◌, option_map, option_or}
-use Rattle.nf_net.proofs.Words.{Answer, Overlap, Unknown, Msg, instance_node, CopyPhase, CopyPlan, CopyState, Each, answered, Done}
+use Rattle.nf_net.proofs.Words.{Answer, Overlap, Unknown, Msg, instance_node, CopyPhase, CopyPlan, CopyState, Each, answered, Done, split}
 use Rattle.copy_share.specs.Copy as copying
 use Rattle.nf_net.proofs.answers.ShareTells.{is_of_share, AreOfShare}
 
@@ -22,17 +22,14 @@ by_destination plan ph m a none some = cc
 
 pub row_ends : (y : CopyState) (p : ℕ) (m : Msg) (a : Answer) → copying.answer_of y.phase ≡ None → copying.answer_of (copying.row y p m).phase ≡ Some a
     → (k : ℕ) × (m ≡ Msg.Kept k)
-row_ends y p m a none some = elim (p == instance_node y.plan.from) as (λ b. copying.answer_of (if b then copying.from_source y.plan y.phase m
-    else if p == instance_node y.plan.to then copying.from_destination y.plan y.phase m else copying.next_phase y.phase []).phase ≡ Some a
-    → (k : ℕ) × (m ≡ Msg.Kept k)) [
-      | true ↦ λ is. absurd (by_source y.plan y.phase m a none is)
-      | false ↦ λ rest. elim (p == instance_node y.plan.to) as (λ b.
-          copying.answer_of (if b then copying.from_destination y.plan y.phase m else copying.next_phase y.phase []).phase ≡ Some a
-          → (k : ℕ) × (m ≡ Msg.Kept k)) [
-            | true ↦ λ is. by_destination y.plan y.phase m a none is
-            | false ↦ λ is. absurd (going_on y.phase a none is)
-          ] rest
-    ] some
+row_ends y p m a none some = split (p == instance_node y.plan.from)
+    (λ b. copying.answer_of (if b then copying.from_source y.plan y.phase m else if p == instance_node y.plan.to
+    then copying.from_destination y.plan y.phase m else copying.next_phase y.phase []).phase ≡ Some a → (k : ℕ) × (m ≡ Msg.Kept k))
+    (λ _ is. absurd (by_source y.plan y.phase m a none is))
+    (λ _ rest. split (p == instance_node y.plan.to)
+    (λ b. copying.answer_of (if b then copying.from_destination y.plan y.phase m else copying.next_phase y.phase []).phase ≡ Some a → (k : ℕ) ×
+    (m ≡ Msg.Kept k))
+    (λ _ is. by_destination y.plan y.phase m a none is) (λ _ is. absurd (going_on y.phase a none is)) rest) some
 
 -- A refusal isn't that a command is done.
 pub not_refused : (u : Option (List ℕ)) (q : Option ℕ) → option_or (option_map Unknown u) (option_map Overlap q) ≡ Some Done → ⊥

@@ -2,7 +2,7 @@
 -- stood by at its destination.
 use Rattle.nf_net.proofs.Words.{◌≡◌, ℕ, zero, suc, ◌+◌, ◌≤◌, true, false, inl, inr, Some, None, List, [], ◌∷◌, ◌++◌, append-nil, length, refl, sym, ap, ◌∙◌}
 use Rattle.nf_net.proofs.Words.{subst, arith, ◌==◌, slice_get, Global, nat_tests, slice_get-get_or, Filter, Chunk, FunctionLaws, Semantics, Msg, Note, units_in}
-use Rattle.nf_net.proofs.Words.{instance_node, InstanceState, selected_chunks, instance_step, switch_step, Choice, Network, Stepped, IsRun, run, world_next, at}
+use Rattle.nf_net.proofs.Words.{instance_node, InstanceState, selected_chunks, instance_step, switch_step, Choice, Network, IsRun, run, world_next, at}
 use Rattle.nf_net.proofs.Words.{opening_on_links, run_more, Takes, taken_outcome, EachSent, OnLinks, on_links_after, total_after, Config, Node, answers_of}
 use Rattle.nf_net.proofs.Words.{is_begun, IsFront, processed_of, is_item, most_counted, IsInput, job_of, node_step, node_ready, live_at, live_in, StandsBy}
 use Rattle.nf_net.proofs.Words.{first_nodes, exported_for, before_export, answers_of-append, all_each, Given, Label, Joined, node_of, given, count_at_start}
@@ -55,14 +55,8 @@ module _ (F : Type 0) {R : Type 0} (f : Semantics R) (laws : FunctionLaws f) (al
   abbrev g : Given
   g = given f c items is
 
-  abbrev n : ℕ
-  n = length c.names + 2
-
   abbrev first : Network (Node F R) Msg Note
   first = start F f laws alloc c items is
-
-  abbrev step : Node F R → ℕ → Msg → Stepped (Node F R) Msg Note
-  step = node_step f
 
   abbrev Tells : List Choice → List Note → ℕ → ℕ → Msg → Type 0
   Tells = Told f c items first
@@ -79,58 +73,59 @@ module _ (F : Type 0) {R : Type 0} (f : Semantics R) (laws : FunctionLaws f) (al
     found = λ copy of e. cc;
   }
 
-  module _ (cs : List Choice) (r : Runs F f laws alloc c items is (run step cs first)) (k p : ℕ) (h : Copying cs (run step cs first)) where
+  module _ (cs : List Choice) (r : Runs F f laws alloc c items is (run (node_step f) cs first)) (k p : ℕ) (h : Copying cs (run (node_step f) cs first)) where
     abbrev w : Network (Node F R) Msg Note
-    w = run step cs first
+    w = run (node_step f) cs first
 
-    abbrev j : Joined f g n w
+    abbrev j : Joined f g (length c.names + 2) w
     j = r.joined
 
     abbrev later : List Choice
     later = cs ++ at k p ∷ []
 
-    module _ (node : Node F R) (m : Msg) (rest : List Msg) (takes : Takes step n w k p node m rest) where
+    module _ (node : Node F R) (m : Msg) (rest : List Msg) (takes : Takes (node_step f) (length c.names + 2) w k p node m rest) where
       abbrev log : List Note
-      log = w.log ++ (step node p m).notes
+      log = w.log ++ (node_step f node p m).notes
 
       abbrev v : Network (Node F R) Msg Note
-      v = world_next step w (at k p)
+      v = world_next (node_step f) w (at k p)
 
       log_is : v.log ≡ log
-      log_is = (taken_outcome step n w k p node m rest takes).log
+      log_is = (taken_outcome (node_step f) (length c.names + 2) w k p node m rest takes).log
 
       -- what is known of the message
       was : Tells cs w.log p k m
       was = (subst (λ ms. Each (Tells cs w.log p k) ms) takes.waits
           (h.says p k (let count = takes.count in rw count takes.sender) (let count = takes.count in rw count takes.receiver))).0
 
-      -- what the step is to leave
+      -- what the (node_step f) is to leave
       pub record Leaves : Type 0 where
-        pub says : EachSent (Tells later log) k (step node p m).sends
-        pub found : (copy : UnitCopy) → IsOrdered c items copy → answers_of copy.op (step node p m).notes ≡ Done ∷ [] → WasKept f c items first later log copy
+        pub says : EachSent (Tells later log) k (node_step f node p m).sends
+        pub found : (copy : UnitCopy) → IsOrdered c items copy → answers_of copy.op (node_step f node p m).notes ≡ Done ∷ []
+            → WasKept f c items first later log copy
 
       leaves : Leaves → Copying later v
       leaves l = record {
-        says = subst (λ q. OnLinks (Tells later q) v) (sym log_is) (on_links_after (Tells later log) step n w k p node m rest takes
-            (links_still f c items first cs (at k p) w.log (step node p m).notes w h.says) l.says);
+        says = subst (λ q. OnLinks (Tells later q) v) (sym log_is) (on_links_after (Tells later log) (node_step f) (length c.names + 2) w k p node m rest takes
+            (links_still f c items first cs (at k p) w.log (node_step f node p m).notes w h.says) l.says);
         found = λ copy of e. subst (λ q. WasKept f c items first later q copy) (sym log_is)
-            (by_one copy of (one_of (answers_of copy.op w.log) (answers_of copy.op (step node p m).notes) Done
-            (sym (answers_of-append copy.op w.log (step node p m).notes) ∙ ap (answers_of copy.op) (sym log_is) ∙ e)));
+            (by_one copy of (one_of (answers_of copy.op w.log) (answers_of copy.op (node_step f node p m).notes) Done
+            (sym (answers_of-append copy.op w.log (node_step f node p m).notes) ∙ ap (answers_of copy.op) (sym log_is) ∙ e)));
       }
         where
-          by_one : (copy : UnitCopy) → IsOrdered c items copy → OneOf (answers_of copy.op w.log) (answers_of copy.op (step node p m).notes) Done
+          by_one : (copy : UnitCopy) → IsOrdered c items copy → OneOf (answers_of copy.op w.log) (answers_of copy.op (node_step f node p m).notes) Done
               → WasKept f c items first later log copy
-          by_one copy of (In_first x) = kept_still f c items first cs (at k p) w.log (step node p m).notes copy (h.found copy of x)
+          by_one copy of (In_first x) = kept_still f c items first cs (at k p) w.log (node_step f node p m).notes copy (h.found copy of x)
           by_one copy of (In_second x) = l.found copy of x
 
       -- where nothing is answered
-      other : ((op : ℕ) → answers_of op (step node p m).notes ≡ []) → EachSent (Tells later log) k (step node p m).sends → Leaves
+      other : ((op : ℕ) → answers_of op (node_step f node p m).notes ≡ []) → EachSent (Tells later log) k (node_step f node p m).sends → Leaves
       other none says = record { says = says; found = λ copy of e. (let never = sym (none copy.op) ∙ e in cc) }
 
-  module _ (cs : List Choice) (run_is : IsRun node_ready step cs first) (r : Runs F f laws alloc c items is (run step cs first)) (p : ℕ)
-      (h : Copying cs (run step cs first)) (rest : List Msg) where
-    at_switch : (m : Msg) → Label f g p 0 m → EachSent (Label f g) 0 (step (node_of (j cs r 0 p h).nodes 0) p m).sends
-        → (takes : Takes step n (w cs r 0 p h) 0 p (node_of (j cs r 0 p h).nodes 0) m rest)
+  module _ (cs : List Choice) (run_is : IsRun node_ready (node_step f) cs first) (r : Runs F f laws alloc c items is (run (node_step f) cs first)) (p : ℕ)
+      (h : Copying cs (run (node_step f) cs first)) (rest : List Msg) where
+    at_switch : (m : Msg) → Label f g p 0 m → EachSent (Label f g) 0 (node_step f (node_of (j cs r 0 p h).nodes 0) p m).sends
+        → (takes : Takes (node_step f) (length c.names + 2) (w cs r 0 p h) 0 p (node_of (j cs r 0 p h).nodes 0) m rest)
         → Leaves cs r 0 p h (node_of (j cs r 0 p h).nodes 0) m rest takes
     at_switch m label sent takes =
         let s = (j cs r 0 p h).nodes.switch in
@@ -139,7 +134,7 @@ module _ (F : Type 0) {R : Type 0} (f : Semantics R) (laws : FunctionLaws f) (al
         (switch_tells f c items g first (cs ++ at 0 p ∷ []) (log cs r 0 p h (node_of (j cs r 0 p h).nodes 0) m rest takes) (switch_step s m).sends
         sent)
 
-    at_controller : (m : Msg) → Label f g p 1 m → (takes : Takes step n (w cs r 1 p h) 1 p (node_of (j cs r 1 p h).nodes 1) m rest)
+    at_controller : (m : Msg) → Label f g p 1 m → (takes : Takes (node_step f) (length c.names + 2) (w cs r 1 p h) 1 p (node_of (j cs r 1 p h).nodes 1) m rest)
         → Leaves cs r 1 p h (node_of (j cs r 1 p h).nodes 1) m rest takes
     at_controller m label takes =
         let x = j cs r 1 p h in
@@ -152,7 +147,7 @@ module _ (F : Type 0) {R : Type 0} (f : Semantics R) (laws : FunctionLaws f) (al
       abbrev z : ℕ
       z = suc (suc y)
 
-      abbrev x : Joined f g n (w cs r z p h)
+      abbrev x : Joined f g (length c.names + 2) (w cs r z p h)
       x = j cs r z p h
 
       abbrev i : InstanceState F R
@@ -165,7 +160,7 @@ module _ (F : Type 0) {R : Type 0} (f : Semantics R) (laws : FunctionLaws f) (al
       Known m = Tells (cs ++ at z p ∷ []) ((w cs r z p h).log ++ notes_of m)
 
       abbrev TakesHere : Msg → Type 0
-      TakesHere m = Takes step n (w cs r z p h) z p (Instance i) m rest
+      TakesHere m = Takes (node_step f) (length c.names + 2) (w cs r z p h) z p (Instance i) m rest
 
       -- what a source gives
       module _ (op : ℕ) (filter : Filter) (takes : TakesHere (Msg.Get op filter))
@@ -175,8 +170,8 @@ module _ (F : Type 0) {R : Type 0} (f : Semantics R) (laws : FunctionLaws f) (al
 
         none_before : exported_for op (w cs r z p h).log ≡ None
         none_before =
-            let weight = total_after step n (w cs r z p h) z p (Instance i) m rest takes (once false op) in
-            let none = none_once f g op false n z (step (Instance i) p m).sends (λ never. absurd (omega (arith, never))) sent in
+            let weight = total_after (node_step f) (length c.names + 2) (w cs r z p h) z p (Instance i) m rest takes (once false op) in
+            let none = none_once f g op false (length c.names + 2) z (node_step f (Instance i) p m).sends (λ never. absurd (omega (arith, never))) sent in
             let own : (op == op) ≡ true = grind (arith, nat_tests) in
             let one : once false op m ≡ 1 = rw own refl in
             let judging = run_judging F f laws alloc c items is cs run_is in
@@ -226,7 +221,7 @@ module _ (F : Type 0) {R : Type 0} (f : Semantics R) (laws : FunctionLaws f) (al
 
       -- what a destination keeps
       module _ (op : ℕ) (chunks : List Chunk) (takes : TakesHere (Msg.Standby op chunks)) (label : Label f g p z (Msg.Standby op chunks))
-          (few : (u : Unit) → length (processed_of f c items u (world_next step (w cs r z p h) (at z p)).log) ≤ most_counted) where
+          (few : (u : Unit) → length (processed_of f c items u (world_next (node_step f) (w cs r z p h) (at z p)).log) ≤ most_counted) where
         abbrev q : Msg
         q = Msg.Standby op chunks
 
@@ -247,20 +242,20 @@ module _ (F : Type 0) {R : Type 0} (f : Semantics R) (laws : FunctionLaws f) (al
             }
           where
             stood : (copy : UnitCopy) (it : AreGiven f c items first cs (w cs r z p h).log copy chunks) → y ≡ copy.destination
-                → (u : Unit) (kept : R) → filters.takes copy.filter u ≡ true → live_at (run step it.by.before first) copy.source u ≡ Some kept
-                → (now : StandsBy (job_of f c items) (run step (cs ++ at z p ∷ []) first) copy.destination u)
-                × IsFront (processed_of f c items u (run step it.by.before first).log) now.front
+                → (u : Unit) (kept : R) → filters.takes copy.filter u ≡ true → live_at (run (node_step f) it.by.before first) copy.source u ≡ Some kept
+                → (now : StandsBy (job_of f c items) (run (node_step f) (cs ++ at z p ∷ []) first) copy.destination u)
+                × IsFront (processed_of f c items u (run (node_step f) it.by.before first).log) now.front
             stood copy it at_destination u kept taken_so live =
-                let xs = processed_of f c items u (run step it.by.before first).log in
+                let xs = processed_of f c items u (run (node_step f) it.by.before first).log in
                 let folds = it.by.to_give.had u kept taken_so live in
                 let front : IsFront xs (processed_of f c items u (w cs r z p h).log) = record {
                   rest = processed_of f c items u it.by.rest;
-                  whole = sym (went_more f c items u (run step it.by.before first).log it.by.rest) ∙ ap (processed_of f c items u) (sym it.by.log_is);
+                  whole = sym (went_more f c items u (run (node_step f) it.by.before first).log it.by.rest) ∙ ap (processed_of f c items u) (sym it.by.log_is);
                 } in
-                let now = kept_at f laws c items is n (w cs r z p h) x y p op chunks rest takes label.1 u xs kept front folds
+                let now = kept_at f laws c items is (length c.names + 2) (w cs r z p h) x y p op chunks rest takes label.1 u xs kept front folds
                 (it.bring u kept taken_so live) (few u) in
-                subst (λ d. (now : StandsBy (job_of f c items) (run step (cs ++ at z p ∷ []) first) d u) × IsFront xs now.front) at_destination (subst
-                (λ a. (now : StandsBy (job_of f c items) a y u) × IsFront xs now.front) (run_more step cs (at z p) first (w cs r z p h) refl) now)
+                subst (λ d. (now : StandsBy (job_of f c items) (run (node_step f) (cs ++ at z p ∷ []) first) d u) × IsFront xs now.front) at_destination (subst
+                (λ a. (now : StandsBy (job_of f c items) a y u) × IsFront xs now.front) (run_more (node_step f) cs (at z p) first (w cs r z p h) refl) now)
 
       answer_told : (m : Msg) (op : ℕ) (sends : List (ℕ × Msg)) → ((copy : UnitCopy) → copy.op ≡ op → IsOrdered c items copy
           → WasKept f c items first (cs ++ at z p ∷ []) ((w cs r z p h).log ++ notes_of m) copy)
@@ -269,7 +264,7 @@ module _ (F : Type 0) {R : Type 0} (f : Semantics R) (laws : FunctionLaws f) (al
       answer_told m op sends kept_so (inr one) = subst (λ xs. EachSent (Known m) z xs) (sym one) (kept_so, tt)
 
       tells : (m : Msg) → Label f g p z m → EachSent (Label f g) z (instance_step f i m).sends → (takes : TakesHere m)
-          → ((u : Unit) → length (processed_of f c items u (world_next step (w cs r z p h) (at z p)).log) ≤ most_counted)
+          → ((u : Unit) → length (processed_of f c items u (world_next (node_step f) (w cs r z p h) (at z p)).log) ≤ most_counted)
           → EachSent (Known m) z (instance_step f i m).sends
       tells (Msg.Get op filter) label sent takes few =
           subst (λ xs. EachSent (Known (Msg.Get op filter)) z xs) (sym (get_sent f i op filter)) (gives op filter takes sent, tt)
@@ -285,23 +280,23 @@ module _ (F : Type 0) {R : Type 0} (f : Semantics R) (laws : FunctionLaws f) (al
           all_none f c items is first cs (at z p) (w cs r z p h).log (notes_of m) z (instance_step f i m).sends (other_none f i m refl)
 
       at_instance : (m : Msg) → Label f g p z m → EachSent (Label f g) z (instance_step f i m).sends → (takes : TakesHere m)
-          → ((u : Unit) → length (processed_of f c items u (world_next step (w cs r z p h) (at z p)).log) ≤ most_counted)
+          → ((u : Unit) → length (processed_of f c items u (world_next (node_step f) (w cs r z p h) (at z p)).log) ≤ most_counted)
           → Leaves cs r z p h (Instance i) m rest takes
       at_instance m label sent takes few = other cs r z p h (Instance i) m rest takes
           (λ op. none_answered op (notes_of m) (other_not_answered op (notes_of m) (instance_says f g z i m).notes_are))
           (tells m label sent takes few)
 
-    each_next : (k : ℕ) (m : Msg) (takes : Takes step n (w cs r k p h) k p (node_of (j cs r k p h).nodes k) m rest)
-        → Label f g p k m → EachSent (Label f g) k (step (node_of (j cs r k p h).nodes k) p m).sends
-        → ((u : Unit) → length (processed_of f c items u (world_next step (w cs r k p h) (at k p)).log) ≤ most_counted)
-        → Copying (cs ++ at k p ∷ []) (world_next step (w cs r k p h) (at k p))
+    each_next : (k : ℕ) (m : Msg) (takes : Takes (node_step f) (length c.names + 2) (w cs r k p h) k p (node_of (j cs r k p h).nodes k) m rest)
+        → Label f g p k m → EachSent (Label f g) k (node_step f (node_of (j cs r k p h).nodes k) p m).sends
+        → ((u : Unit) → length (processed_of f c items u (world_next (node_step f) (w cs r k p h) (at k p)).log) ≤ most_counted)
+        → Copying (cs ++ at k p ∷ []) (world_next (node_step f) (w cs r k p h) (at k p))
     each_next zero m takes label sent few = leaves cs r 0 p h (node_of (j cs r 0 p h).nodes 0) m rest takes (at_switch m label sent takes)
     each_next (suc zero) m takes label sent few = leaves cs r 1 p h (node_of (j cs r 1 p h).nodes 1) m rest takes (at_controller m label takes)
     each_next (suc (suc y)) m takes label sent few =
         leaves cs r (suc (suc y)) p h (node_of (j cs r (suc (suc y)) p h).nodes (suc (suc y))) m rest takes (at_instance y m label sent takes few)
 
   -- every run keeps it
-  pub run_copying : (cs : List Choice) → IsRun node_ready step cs first → Copying cs (run step cs first)
+  pub run_copying : (cs : List Choice) → IsRun node_ready (node_step f) cs first → Copying cs (run (node_step f) cs first)
   run_copying = run_keeps F f laws alloc c items is Copying start_copying (λ ds ok d s h. each_next ds ok s.runs d.port h s.taking.rest d.node
-      s.taking.message s.takes s.taken.label s.labels (room F f laws alloc c items is (world_next step (run step ds first) d)
-      (next_in_run F f laws alloc c items is (run step ds first) d s (runs_joined F f laws alloc c items is ds ok).in_turn)))
+      s.taking.message s.takes s.taken.label s.labels (room F f laws alloc c items is (world_next (node_step f) (run (node_step f) ds first) d)
+      (next_in_run F f laws alloc c items is (run (node_step f) ds first) d s (runs_joined F f laws alloc c items is ds ok).in_turn)))

@@ -1,6 +1,6 @@
 -- In every run no more is processed of a unit than a record counts.
-use Rattle.nf_net.proofs.Words.{ℕ, suc, ◌+◌, ◌≤◌, Bool, true, false, List, [], ◌∷◌, length, arith, if◌then◌else◌, Global, length-map, FunctionLaws, Semantics}
-use Rattle.nf_net.proofs.Words.{Msg, Note, Network, Config, Node, is_of, processed_of, most_counted, IsInput, arrivals_in, dones_in, done_where, Unit}
+use Rattle.nf_net.proofs.Words.{ℕ, suc, ◌+◌, ◌≤◌, Bool, List, [], ◌∷◌, length, arith, if◌then◌else◌, Global, length-map, FunctionLaws, Semantics, Msg, Note}
+use Rattle.nf_net.proofs.Words.{Network, Config, Node, is_of, processed_of, most_counted, IsInput, arrivals_in, dones_in, done_where, Unit, split}
 use Rattle.net_world.specs.Input.{packets}
 use Rattle.net_world.specs.Log.{Done}
 use Rattle.nf_net.proofs.answers.ArrivalLemmas.{numbers, InRun}
@@ -10,10 +10,8 @@ use Rattle.nf_net.proofs.PacketCounts.{few_done}
 few_of : (mine : ℕ → Bool) (ds : List Done) → length (done_where mine ds) ≤ length ds
 few_of mine [] = omega arith
 few_of mine (d ∷ ds) =
-    let rest = few_of mine ds in elim (mine d.number) as (λ b. length (if b then d ∷ done_where mine ds else done_where mine ds) ≤ suc (length ds)) [
-      | true ↦ omega (arith, rest)
-      | false ↦ omega (arith, rest)
-    ]
+    let rest = few_of mine ds in split (mine d.number) (λ b. length (if b then d ∷ done_where mine ds else done_where mine ds) ≤ suc (length ds))
+    (λ _. omega (arith, rest)) (λ _. omega (arith, rest))
 
 module _ (F : Type 0) {R : Type 0} (f : Semantics R) (laws : FunctionLaws f) (alloc : Global) (c : Config) (items : List Msg)
     (is : IsInput f.kind c items) where

@@ -1,7 +1,7 @@
 -- Each choice of a run keeps that the switch counts the commands that wait for their answer.
 use Rattle.nf_net.proofs.Words.{◌≡◌, ◌≢◌, ℕ, zero, suc, ◌+◌, ◌<◌, ◌≤◌, Bool, true, false, List, [], ◌∷◌, ◌++◌, length, length-append, drop, append_assoc, refl}
 use Rattle.nf_net.proofs.Words.{sym, ap, ◌∙◌, subst, arith, ◌&&◌, ◌==◌, nat_lt, Global, nat_tests, Decides-eqb, Decides-ltb, FunctionLaws, Semantics, Answer}
-use Rattle.nf_net.proofs.Words.{Msg, Note, SwitchState, switch_step, takes_in, controller_step, Network, Stepped, reaches, world_next, queue_at, at, Takes}
+use Rattle.nf_net.proofs.Words.{Msg, Note, SwitchState, switch_step, takes_in, controller_step, Network, reaches, world_next, queue_at, at, Takes}
 use Rattle.nf_net.proofs.Words.{taken_outcome, less_first, EachSent, total, sent_weight, total_after, Config, Node, Switch, has_answered, answers_of, commands}
 use Rattle.nf_net.proofs.Words.{IsInput, node_step, node_ready, answers_of-append, known, Given, Label, Joined, node_of, given, split}
 use Rattle.actor_net.specs.Network.{is_input}
@@ -20,30 +20,27 @@ module _ (F : Type 0) {R : Type 0} (f : Semantics R) (laws : FunctionLaws f) (al
   abbrev n : ℕ
   n = length c.names + 2
 
-  abbrev step : Node F R → ℕ → Msg → Stepped (Node F R) Msg Note
-  step = node_step f
-
   reach : reaches n 1 0 ≡ true
   reach = let some = (Decides-ltb 0 n).1 (omega arith) in rw some refl
 
   module _ (w : Network (Node F R) Msg Note) (j : Joined f g n w) (b : Busy g w) (h : Counted items w) where
     -- a message that a node takes in a run: what comes and what is sent is labelled, and what is left of the input
     pub record TakesInRun (k p : ℕ) (m : Msg) (rest : List Msg) : Type 0 where
-      pub takes : Takes step n w k p (node_of j.nodes k) m rest
+      pub takes : Takes (node_step f) n w k p (node_of j.nodes k) m rest
       pub ready : is_input (at k p) ≡ true → node_ready (node_of j.nodes k) m ≡ true
       pub label : Label f g p k m
-      pub labels : EachSent (Label f g) k (step (node_of j.nodes k) p m).sends
-      pub input : queue_at (world_next step w (at k p)) (at 0 0) ≡ less_first ((0 == k) && (0 == p)) (queue_at w (at 0 0))
+      pub labels : EachSent (Label f g) k (node_step f (node_of j.nodes k) p m).sends
+      pub input : queue_at (world_next (node_step f) w (at k p)) (at 0 0) ≡ less_first ((0 == k) && (0 == p)) (queue_at w (at 0 0))
 
     module _ (k p : ℕ) (m : Msg) (rest : List Msg) (it : TakesInRun k p m rest) where
-      abbrev takes : Takes step n w k p (node_of j.nodes k) m rest
+      abbrev takes : Takes (node_step f) n w k p (node_of j.nodes k) m rest
       takes = it.takes
 
       abbrev v : Network (Node F R) Msg Note
-      v = world_next step w (at k p)
+      v = world_next (node_step f) w (at k p)
 
       abbrev notes : List Note
-      notes = (step (node_of j.nodes k) p m).notes
+      notes = (node_step f (node_of j.nodes k) p m).notes
 
       abbrev Is_ready : Type 0
       Is_ready = (k ≡ 0) × (takes_in j.nodes.switch m ≡ true)
@@ -69,13 +66,13 @@ module _ (F : Type 0) {R : Type 0} (f : Semantics R) (laws : FunctionLaws f) (al
               let never : true ≡ false = rw (p0, k0) at off in
               cc
 
-      -- the balance, by what the step changes
+      -- the balance, by what the (node_step f) changes
       balance_after : (s : SwitchState) (more : ℕ) → s.waiting + answering m ≡ h.switch.waiting + asking m → answered_in (commands items) (w.log ++ notes)
-          ≡ answered_in (commands items) w.log + more → sent_weight answering n k (step (node_of j.nodes k) p m).sends ≡ more
+          ≡ answered_in (commands items) w.log + more → sent_weight answering n k (node_step f (node_of j.nodes k) p m).sends ≡ more
           → s.waiting + answered_in (commands items) v.log + length (commands (queue_at v (at 0 0))) ≡ length (commands items) + total answering v
       balance_after s more counts answered sent =
-          let log = ap (answered_in (commands items)) (taken_outcome step n w k p (node_of j.nodes k) m rest takes).log in
-          let weight = total_after step n w k p (node_of j.nodes k) m rest takes answering in
+          let log = ap (answered_in (commands items)) (taken_outcome (node_step f) n w k p (node_of j.nodes k) m rest takes).log in
+          let weight = total_after (node_step f) n w k p (node_of j.nodes k) m rest takes answering in
           let less = input_counts input_goes in
           let was = h.balance in
           omega (arith, log, weight, less, was, counts, answered, sent)
@@ -98,7 +95,7 @@ module _ (F : Type 0) {R : Type 0} (f : Semantics R) (laws : FunctionLaws f) (al
       settled_after : h.switch ≡ j.nodes.switch → InputGoes m (queue_at w (at 0 0)) (queue_at v (at 0 0)) Is_ready → (front behind : List Msg)
           → items ≡ front ++ Msg.InSettle ∷ behind → length (queue_at v (at 0 0)) ≤ length behind → AllAnswered (commands front) v.log
       settled_after same goes front behind whole short = subst (λ l. AllAnswered (commands front) l)
-          (sym (taken_outcome step n w k p (node_of j.nodes k) m rest takes).log) (all_answered_more (commands front) w.log notes (by_goes goes))
+          (sym (taken_outcome (node_step f) n w k p (node_of j.nodes k) m rest takes).log) (all_answered_more (commands front) w.log notes (by_goes goes))
         where
           taken_now : m ∷ queue_at v (at 0 0) ≡ Msg.InSettle ∷ behind → takes_in j.nodes.switch m ≡ true → h.switch.waiting ≡ 0
           taken_now e on =
@@ -118,21 +115,21 @@ module _ (F : Type 0) {R : Type 0} (f : Semantics R) (laws : FunctionLaws f) (al
     switch_same : 0 < n → h.switch ≡ j.nodes.switch
     switch_same some = ap (switch_in h.switch) (sym (h.switch_is (Switch h.switch)) ∙ j.nodes_are 0 some (Switch h.switch))
 
-    pub counted_after : (k p : ℕ) (m : Msg) (rest : List Msg) (it : TakesInRun k p m rest) → Busy g (world_next step w (at k p))
-        → Counted items (world_next step w (at k p))
+    pub counted_after : (k p : ℕ) (m : Msg) (rest : List Msg) (it : TakesInRun k p m rest) → Busy g (world_next (node_step f) w (at k p))
+        → Counted items (world_next (node_step f) w (at k p))
     counted_after zero p m rest it after =
         let s = j.nodes.switch in
         let same = switch_same it.takes.some in
         let goes = input_goes 0 p m rest it in
         let took = took_after 0 p m rest it goes in
         let sent = none_sent f g n 0 (switch_step s m).sends (λ never. cc) it.labels in
-        let weight = total_after step n w 0 p (node_of j.nodes 0) m rest it.takes answering in
+        let weight = total_after (node_step f) n w 0 p (node_of j.nodes 0) m rest it.takes answering in
         let most = few g w b items h in
         let was = h.balance in
         let counts = switch_counts f g s m (asked_ready goes) (let e = ap (λ x. x.waiting) same in omega (arith, e, sent, weight, most, was)) in
         record {
           switch = (switch_step s m).node;
-          switch_is = (taken_outcome step n w 0 p (node_of j.nodes 0) m rest it.takes).own;
+          switch_is = (taken_outcome (node_step f) n w 0 p (node_of j.nodes 0) m rest it.takes).own;
           took = took.0;
           whole = took.1;
           balance = balance_after 0 p m rest it (switch_step s m).node 0 (counts ∙ ap (λ x. x.waiting + asking m) (sym same))
@@ -142,7 +139,7 @@ module _ (F : Type 0) {R : Type 0} (f : Semantics R) (laws : FunctionLaws f) (al
           settled = settled_after 0 p m rest it same goes;
         }
       where
-        asked_ready : InputGoes m (queue_at w (at 0 0)) (queue_at (world_next step w (at 0 p)) (at 0 0)) (Is_ready 0 p m rest it) → 1 ≤ asking m
+        asked_ready : InputGoes m (queue_at w (at 0 0)) (queue_at (world_next (node_step f) w (at 0 p)) (at 0 0)) (Is_ready 0 p m rest it) → 1 ≤ asking m
             → takes_in j.nodes.switch m ≡ true
         asked_ready (Stays e none) some = absurd (omega (arith, none, some))
         asked_ready (Loses e r) some = r.1
@@ -150,7 +147,7 @@ module _ (F : Type 0) {R : Type 0} (f : Semantics R) (laws : FunctionLaws f) (al
         let t = j.nodes.controller in
         let goes = input_goes 1 p m rest it in
         let took = took_after 1 p m rest it goes in
-        let left = taken_outcome step n w 1 p (node_of j.nodes 1) m rest it.takes in
+        let left = taken_outcome (node_step f) n w 1 p (node_of j.nodes 1) m rest it.takes in
         let labelled_is = it.label in
         let acts = controller_acts g n reach t (known f g t j.world.ops j.world.shares j.world.next j.shown_is.controller) f p m labelled_is in
         let none = no_answer_to f g p 1 m (omega arith) labelled_is in
@@ -164,7 +161,7 @@ module _ (F : Type 0) {R : Type 0} (f : Semantics R) (laws : FunctionLaws f) (al
           settled = settled_after 1 p m rest it (switch_same it.takes.some) goes;
         }
       where
-        not_asked : InputGoes m (queue_at w (at 0 0)) (queue_at (world_next step w (at 1 p)) (at 0 0)) (Is_ready 1 p m rest it) → asking m ≡ 0
+        not_asked : InputGoes m (queue_at w (at 0 0)) (queue_at (world_next (node_step f) w (at 1 p)) (at 0 0)) (Is_ready 1 p m rest it) → asking m ≡ 0
         not_asked (Stays e none) = none
         not_asked (Loses e r) = let never = r.0 in cc
 
@@ -179,7 +176,8 @@ module _ (F : Type 0) {R : Type 0} (f : Semantics R) (laws : FunctionLaws f) (al
         unanswered_before op a e false is = is
         unanswered_before op a e true is =
             let self : (op == op) ≡ true = grind (arith, nat_tests) in
-            let log : (world_next step w (at 1 p)).log ≡ w.log ++ Note.Answered op a ∷ [] = (taken_outcome step n w 1 p (node_of j.nodes 1) m rest it.takes).log
+            let log : (world_next (node_step f) w (at 1 p)).log ≡ w.log ++ Note.Answered op a ∷ [] =
+            (taken_outcome (node_step f) n w 1 p (node_of j.nodes 1) m rest it.takes).log
             ∙ ap (λ ns. w.log ++ ns) e in
             let one : length (answers_of op (Note.Answered op a ∷ [])) ≡ 1 = rw self refl in
             let both = ap (λ l. length (answers_of op l)) log ∙ ap length (answers_of-append op w.log (Note.Answered op a ∷ []))
@@ -189,8 +187,9 @@ module _ (F : Type 0) {R : Type 0} (f : Semantics R) (laws : FunctionLaws f) (al
             absurd (omega (arith, one, both, some, once))
 
         by_says : SaysSo g n reach j.nodes.controller (controller_step j.nodes.controller p m) → h.switch.waiting + answering m ≡ h.switch.waiting + asking m
-            → h.switch.waiting + answered_in (commands items) (world_next step w (at 1 p)).log
-            + length (commands (queue_at (world_next step w (at 1 p)) (at 0 0))) ≡ length (commands items) + total answering (world_next step w (at 1 p))
+            → h.switch.waiting + answered_in (commands items) (world_next (node_step f) w (at 1 p)).log
+            + length (commands (queue_at (world_next (node_step f) w (at 1 p)) (at 0 0))) ≡ length (commands items) + total answering
+            (world_next (node_step f) w (at 1 p))
         by_says (Neither e sent) counts = balance_after 1 p m rest it h.switch 0 counts (stays_by [] e (λ op. refl)) sent
         by_says (Begins op e sent closed) counts = balance_after 1 p m rest it h.switch 0 counts (stays_by (Note.Begun op ∷ []) e (λ k. refl)) sent
         by_says (Answers op a what e sent known early) counts = balance_after 1 p m rest it h.switch 1 counts
@@ -200,13 +199,13 @@ module _ (F : Type 0) {R : Type 0} (f : Semantics R) (laws : FunctionLaws f) (al
         let k : ℕ = suc (suc i) in
         let goes = input_goes k p m rest it in
         let took = took_after k p m rest it goes in
-        let left = taken_outcome step n w k p (node_of j.nodes k) m rest it.takes in
+        let left = taken_outcome (node_step f) n w k p (node_of j.nodes k) m rest it.takes in
         let other : k ≢ 1 = (λ never. absurd (omega (arith, never))) in
-        let sent = none_sent f g n k (step (node_of j.nodes k) p m).sends other it.labels in
+        let sent = none_sent f g n k (node_step f (node_of j.nodes k) p m).sends other it.labels in
         let none = no_answer_to f g p k m (omega arith) it.label in
         let asked = not_asked goes in
-        let stays = answered_in_same (commands items) w.log (step (node_of j.nodes k) p m).notes
-        (λ op. other_not_answered op (step (node_of j.nodes k) p m).notes (instance_says f g k (j.nodes.instance k) m).notes_are) in
+        let stays = answered_in_same (commands items) w.log (node_step f (node_of j.nodes k) p m).notes
+        (λ op. other_not_answered op (node_step f (node_of j.nodes k) p m).notes (instance_says f g k (j.nodes.instance k) m).notes_are) in
         record {
           switch = h.switch;
           switch_is = λ d. left.others 0 d (λ never. cc) ∙ h.switch_is d;
@@ -216,7 +215,7 @@ module _ (F : Type 0) {R : Type 0} (f : Semantics R) (laws : FunctionLaws f) (al
           settled = settled_after k p m rest it (switch_same it.takes.some) goes;
         }
       where
-        not_asked : InputGoes m (queue_at w (at 0 0)) (queue_at (world_next step w (at (suc (suc i)) p)) (at 0 0)) (Is_ready (suc (suc i)) p m rest it)
+        not_asked : InputGoes m (queue_at w (at 0 0)) (queue_at (world_next (node_step f) w (at (suc (suc i)) p)) (at 0 0)) (Is_ready (suc (suc i)) p m rest it)
             → asking m ≡ 0
         not_asked (Stays e none) = none
         not_asked (Loses e r) = let never = r.0 in cc

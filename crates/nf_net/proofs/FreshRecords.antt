@@ -4,7 +4,7 @@ use Rattle.nf_net.proofs.Words.{◌≡◌, ◌≢◌, ℕ, Bool, true, false, Op
 use Rattle.nf_net.proofs.Words.{Decides-eqb, M_fenced, M_install, M_fence_to, where_true, add, UnitShare, shape, to_members, Sys, IsSys, inst_step, none_mine}
 use Rattle.nf_net.proofs.Words.{done_u, GlobalAll, share_expect, unit_share, share_seen, share_items, own_at, does, heads, inst_from, Under, inst_keeps, seeing}
 use Rattle.nf_net.proofs.Words.{Any, olds, Sharing, IsSharing, WantShare, WholeWorld, moves_of, ran_of, SeeingShare, Came, WhereAll, Apart_from_shares}
-use Rattle.nf_net.proofs.Words.{Under_share, processed_where, same_unit, Unit}
+use Rattle.nf_net.proofs.Words.{Under_share, processed_where, same_unit, Unit, split}
 use Rattle.proof_machines.proofs.unit.Real
 use Rattle.proof_machines.proofs.share.Share.{Item, Item.Carry, Item.Fence, Item.Shared, Item.Fenced, Item.Stray, runs}
 use Rattle.proof_machines.proofs.share.Heads.{Meets, meets_sw, meets_to}
@@ -20,11 +20,10 @@ module _ {R : Type 0} (S : Sys R) (A : Sharing S) (laws : IsSys S) (u : Unit) wh
   -- where none of a unit ran, none of its packets did
   none_of : (y : ℕ) (ps : List ℕ) → ran_of S A u (at_node y ps) ≡ [] → none_mine S u ps ≡ []
   none_of y [] e = refl
-  none_of y (p ∷ ps) e = elim (same_unit (S.packet_unit p) u) as (λ b.
-      (if b then (p, y) ∷ ran_of S A u (at_node y ps) else ran_of S A u (at_node y ps)) ≡ [] → (if b then p ∷ none_mine S u ps else none_mine S u ps) ≡ []) [
-        | true ↦ λ k. cc
-        | false ↦ λ k. none_of y ps k
-      ] e
+  none_of y (p ∷ ps) e = split (same_unit (S.packet_unit p) u)
+      (λ b. (if b then (p, y) ∷ ran_of S A u (at_node y ps) else ran_of S A u (at_node y ps)) ≡ [] → (if b then p ∷ none_mine S u ps else none_mine S u ps)
+      ≡ [])
+      (λ _ k. cc) (λ _ k. none_of y ps k) e
 
   -- a message of a move is no packet of a share
   not_shared : (b : Bool) (it : Item R) (q : ℕ) → (it ≡ Shared q → ⊥) → where_true b it ≡ Some (Shared q) → ⊥

@@ -139,10 +139,8 @@ module _ (Part : ℕ → Piece → Type 0) (Verdict : ℕ → Answer → Type 0)
               omega (arith, sent, here);
         }
         turn_by (Some a) e = record {
-          knows = λ k y got. elim (k == op) as (λ b. cond b None (finite.get c.operations k) ≡ Some (Move y) → Knows Part Verdict Goes k y.phase) [
-            | true ↦ λ never. cc
-            | false ↦ λ was. knows k y was
-          ] (sym (gone k) ∙ got);
+          knows = λ k y got. split (k == op) (λ b. cond b None (finite.get c.operations k) ≡ Some (Move y) → Knows Part Verdict Goes k y.phase)
+              (λ _ never. cc) (λ _ was. knows k y was) (sym (gone k) ∙ got);
           says = sent-append (Said Part Verdict Goes) 1 r.next.sends ((0, Msg.Answered op) ∷ []) says_next (tt, tt);
           found = λ k b is. split (op == k) (λ t. map (λ (one : ℕ × Answer). one.1) (if t then (op, a) ∷ [] else []) ≡ b ∷ [] → IsFound k b)
               (λ on given.

@@ -2,7 +2,7 @@
 use Rattle.nf_net.proofs.Words.{◌≡◌, ℕ, ◌+◌, Bool, true, false, Some, None, List, [], ◌∷◌, ◌++◌, length, refl, sym, ap, ◌∙◌, if◌then◌else◌, ◌&&◌, ◌==◌, nat_lt}
 use Rattle.nf_net.proofs.Words.{list_any, or_left, Semantics, version_number, Answer, Import, Piece, Msg, Note, instance_node, piece_refusal, Choice, Network}
 use Rattle.nf_net.proofs.Words.{run, OnLinks, Config, Node, is_begun, order_numbered, course_of, job_of, node_step, is_refusal, exported_for, before_export}
-use Rattle.nf_net.proofs.Words.{is_timed, receiver_of, IsTakenAfter, has_begun-append, Phase, Unit, Door, Done}
+use Rattle.nf_net.proofs.Words.{is_timed, receiver_of, IsTakenAfter, has_begun-append, Phase, Unit, Door, Done, split}
 use Rattle.std.specs.FinMap as finite
 use Rattle.nf_msgs.specs.declared.answer.Answer.TheVariants.{Old}
 use Rattle.instance_worker.specs.declared.instance.Instance.{Instance}
@@ -18,12 +18,10 @@ use Rattle.move_op.specs.Phases as phase
 pub answer_is : {F R : Type 0} (i : Instance F R) (piece : Piece) (timed : Bool) → piece.newest ≡ version_number timed → answer_by (piece_refusal i piece)
     ≡ verdict (record { held = finite.len i.table.live; coming = piece.total; limit = i.limit; marked = i.marked; timed = timed })
 answer_is i piece timed newest =
-    elim (nat_lt i.limit (finite.len i.table.live + piece.total)) as (λ b. answer_by (if b then Some (Import (finite.len i.table.live) piece.total i.limit)
-    else if i.marked && nat_lt 1 piece.newest then Some (Old piece.newest 1) else None)
-    ≡ (if b then Import (finite.len i.table.live) piece.total i.limit else if i.marked && timed then Old 2 1 else Done)) [
-      | true ↦ refl
-      | false ↦ by_version i.marked timed piece.newest newest
-    ]
+    split (nat_lt i.limit (finite.len i.table.live + piece.total))
+    (λ b. answer_by (if b then Some (Import (finite.len i.table.live) piece.total i.limit) else if i.marked && nat_lt 1 piece.newest then Some
+    (Old piece.newest 1) else None) ≡ (if b then Import (finite.len i.table.live) piece.total i.limit else if i.marked && timed then Old 2 1 else Done))
+    (λ _. refl) (λ _. by_version i.marked timed piece.newest newest)
   where
     by_version : (marked t : Bool) (version : ℕ) → version ≡ version_number t
         → answer_by (if marked && nat_lt 1 version then Some (Old version 1) else None) ≡ (if marked && t then Old 2 1 else Done)

@@ -3,10 +3,10 @@ use Rattle.nf_net.proofs.Words.{◌≡◌, ℕ, zero, suc, ◌+◌, ◌<◌, ◌
 use Rattle.nf_net.proofs.Words.{subst, arith, if◌then◌else◌, ◌==◌, slice_get, slice_index, slice_index_or, list_any, Global, nat_tests, Decides-eqb}
 use Rattle.nf_net.proofs.Words.{slice_get-get_or, Filter, Chunk, FunctionLaws, Semantics, version_number, Answer, Piece, Msg, Note, units_in, instance_node}
 use Rattle.nf_net.proofs.Words.{MoveState, destination, CopyState, ShareState, Move, Copy, Share, controller_step, switch_step, InstanceState, piece_refusal}
-use Rattle.nf_net.proofs.Words.{selected_chunks, instance_step, pieces, whole_of, Choice, Network, Stepped, IsRun, run, world_next, at, Takes, taken_outcome}
-use Rattle.nf_net.proofs.Words.{EachSent, total_after, sent_weight, Each, Config, Node, is_begun, has_answered, IsInput, node_step, node_ready, processed_of}
-use Rattle.nf_net.proofs.Words.{live_in, before_export, is_timed, exported_for, live_number, receiver_of, Given, Label, Joined, node_of, is_whole, given}
-use Rattle.nf_net.proofs.Words.{all_fit, Unit, Instance, Runs, split}
+use Rattle.nf_net.proofs.Words.{selected_chunks, instance_step, pieces, whole_of, Choice, Network, IsRun, run, world_next, at, Takes, taken_outcome, EachSent}
+use Rattle.nf_net.proofs.Words.{total_after, sent_weight, Each, Config, Node, is_begun, has_answered, IsInput, node_step, node_ready, processed_of, live_in}
+use Rattle.nf_net.proofs.Words.{before_export, is_timed, exported_for, live_number, receiver_of, Given, Label, Joined, node_of, is_whole, given, all_fit, Unit}
+use Rattle.nf_net.proofs.Words.{Instance, Runs, split}
 use Rattle.std.specs.FinMap as finite
 use Rattle.nf_function.specs.Units as filters
 use Rattle.copy_share.specs.Copy as copy
@@ -35,11 +35,8 @@ module _ (F : Type 0) {R : Type 0} (f : Semantics R) (laws : FunctionLaws f) (al
   abbrev n : ℕ
   n = length c.names + 2
 
-  abbrev step : Node F R → ℕ → Msg → Stepped (Node F R) Msg Note
-  step = node_step f
-
   abbrev w : Network (Node F R) Msg Note
-  w = run step cs (steps.start F f alloc c items is)
+  w = run (node_step f) cs (steps.start F f alloc c items is)
 
   abbrev j : Joined f g n w
   j = r.joined
@@ -57,13 +54,13 @@ module _ (F : Type 0) {R : Type 0} (f : Semantics R) (laws : FunctionLaws f) (al
   Goes = steps.Goes F f alloc c items is
 
   module _ (h : Judging F f alloc c items is cs w w.log) (p : ℕ) (rest : List Msg) where
-    abbrev Leads : (k : ℕ) (m : Msg) → Takes step n w k p (node_of j.nodes k) m rest → Type 0
+    abbrev Leads : (k : ℕ) (m : Msg) → Takes (node_step f) n w k p (node_of j.nodes k) m rest → Type 0
     Leads k m takes = Leaves F f alloc c items is cs w refl h k p (node_of j.nodes k) m rest takes
 
     abbrev AreLabelled : ℕ → Msg → Type 0
-    AreLabelled k m = EachSent (Label f g) k (step (node_of j.nodes k) p m).sends
+    AreLabelled k m = EachSent (Label f g) k (node_step f (node_of j.nodes k) p m).sends
 
-    at_switch : (m : Msg) (takes : Takes step n w 0 p (node_of j.nodes 0) m rest) → Label f g p 0 m → AreLabelled 0 m → Leads 0 m takes
+    at_switch : (m : Msg) (takes : Takes (node_step f) n w 0 p (node_of j.nodes 0) m rest) → Label f g p 0 m → AreLabelled 0 m → Leads 0 m takes
     at_switch m takes labelled labels =
         let s = j.nodes.switch in
         steps.leaves_other F f alloc c items is cs w refl h 0 p (node_of j.nodes 0) m rest takes (λ never. cc) (switch_hands f g s p m labelled).notes_are
@@ -81,10 +78,10 @@ module _ (F : Type 0) {R : Type 0} (f : Semantics R) (laws : FunctionLaws f) (al
           record { destination = x.plan.to; destination_is = ap (receiver_of c) plan.order_is ∙ plan.to_is; node_is = refl },
         )
 
-    new_of : (m : Msg) (takes : Takes step n w 1 p (node_of j.nodes 1) m rest) → Label f g p 1 m → IsNew w.log m
+    new_of : (m : Msg) (takes : Takes (node_step f) n w 1 p (node_of j.nodes 1) m rest) → Label f g p 1 m → IsNew w.log m
     new_of (Msg.Asked a) takes labelled =
         let from : told_in (Msg.Asked a) ≡ (if 0 == p then told_in (Msg.Asked a) else []) = (let sender = labelled.0 in rw sender refl) in
-        let same = way_at_controller told_in step n (omega arith) w p (node_of j.nodes 1) (Msg.Asked a) rest takes from in
+        let same = way_at_controller told_in (node_step f) n (omega arith) w p (node_of j.nodes 1) (Msg.Asked a) rest takes from in
         let first = subst (λ xs. IsBusy g b.controller.operations w.log xs) same b.is in
         (or_off (is_begun a.op w.log) (has_answered a.op w.log) (first.unnoted a.op first.rising.0)).0
     new_of m takes labelled = tt
@@ -107,7 +104,7 @@ module _ (F : Type 0) {R : Type 0} (f : Semantics R) (laws : FunctionLaws f) (al
     due_found later log op a on (By_verdict v) = Was_judged on v
     due_found later log op a on (By_still still done) = Was_still on still done
 
-    at_controller : (m : Msg) (takes : Takes step n w 1 p (node_of j.nodes 1) m rest) → Label f g p 1 m → Leads 1 m takes
+    at_controller : (m : Msg) (takes : Takes (node_step f) n w 1 p (node_of j.nodes 1) m rest) → Label f g p 1 m → Leads 1 m takes
     at_controller m takes labelled =
         let s = j.nodes.controller in
         let log = w.log ++ (controller_step s p m).notes in
@@ -122,7 +119,7 @@ module _ (F : Type 0) {R : Type 0} (f : Semantics R) (laws : FunctionLaws f) (al
         (steps.said_later F f alloc c items is cs w refl h 1 p (node_of j.nodes 1) m rest takes) (new_of m takes labelled) in
         record {
           controller = (controller_step s p m).node;
-          controller_is = (taken_outcome step n w 1 p (node_of j.nodes 1) m rest takes).own;
+          controller_is = (taken_outcome (node_step f) n w 1 p (node_of j.nodes 1) m rest takes).own;
           knows = did.knows;
           says = did.says;
           found = λ op a e. split (is_begun op w.log) (λ _. IsFound f c items (steps.start F f alloc c items is) later log op a)
@@ -158,7 +155,7 @@ module _ (F : Type 0) {R : Type 0} (f : Semantics R) (laws : FunctionLaws f) (al
         fixed_here = h.fixed y (omega (arith, small)) i (λ d. j.nodes_are k small d)
 
         -- whether a live record of a unit that is asked for has a time
-        timed_is : (op : ℕ) (filter : Filter) → Takes step n w k p (Instance i) (Msg.Stream op filter) rest → is_whole f.kind filter ≡ true
+        timed_is : (op : ℕ) (filter : Filter) → Takes (node_step f) n w k p (Instance i) (Msg.Stream op filter) rest → is_whole f.kind filter ≡ true
             → (u : Unit) (r : R) → filters.takes filter u ≡ true → finite.get i.table.live u ≡ Some r → f.is_timed r ≡ is_timed f c items u w.log
         timed_is op filter takes whole u r on got = record_timed f laws c items (all_fit f c items is) (processed_of f c items u w.log) r (streamed_record f c
             items is n w j counted k p (omega arith) small takes.sender op filter rest takes.waits whole u y r on got (ap (live_in u) there ∙ got))
@@ -177,7 +174,7 @@ module _ (F : Type 0) {R : Type 0} (f : Semantics R) (laws : FunctionLaws f) (al
         )
 
         -- the pieces of a stream say what is noted that is given
-        streamed : (op : ℕ) (filter : Filter) → Takes step n w k p (Instance i) (Msg.Stream op filter) rest → is_whole f.kind filter ≡ true
+        streamed : (op : ℕ) (filter : Filter) → Takes (node_step f) n w k p (Instance i) (Msg.Stream op filter) rest → is_whole f.kind filter ≡ true
             → exported_for op w.log ≡ None → Each (Part (w.log ++ (instance_step f i (Msg.Stream op filter)).notes) op) (pieces (selected_chunks f i filter))
         streamed op filter takes whole none =
             let chunks = selected_chunks f i filter in
@@ -190,12 +187,13 @@ module _ (F : Type 0) {R : Type 0} (f : Semantics R) (laws : FunctionLaws f) (al
             (taken_give filter f laws i.table.live (λ u. is_timed f c items u w.log) (timed_is op filter takes whole)) (pieces chunks) (pieces_of chunks))
 
       -- nothing was given before a stream is taken
-      none_before : (op : ℕ) (filter : Filter) (takes : Takes step n w k p (Instance i) (Msg.Stream op filter) rest) → AreLabelled k (Msg.Stream op filter)
+      none_before : (op : ℕ) (filter : Filter) (takes : Takes (node_step f) n w k p (Instance i) (Msg.Stream op filter) rest) → AreLabelled k
+          (Msg.Stream op filter)
           → exported_for op w.log ≡ None
       none_before op filter takes labels =
           let m = Msg.Stream op filter in
-          let weight = total_after step n w k p (Instance i) m rest takes (once false op) in
-          let none = none_once f g op false n k (step (Instance i) p m).sends (λ never. absurd (omega (arith, never))) labels in
+          let weight = total_after (node_step f) n w k p (Instance i) m rest takes (once false op) in
+          let none = none_once f g op false n k (node_step f (Instance i) p m).sends (λ never. absurd (omega (arith, never))) labels in
           let own : (op == op) ≡ true = grind (arith, nat_tests) in
           let one : once false op m ≡ 1 = rw own refl in
           let most = h.once op false in
@@ -203,7 +201,7 @@ module _ (F : Type 0) {R : Type 0} (f : Semantics R) (laws : FunctionLaws f) (al
           none_exported op w.log (omega (arith, weight, none, one, most, few))
 
       -- the verdict on a piece that is put first
-      judged_first : (op : ℕ) (piece : Piece) (takes : Takes step n w k p (Instance i) (Msg.Put op piece true) rest) → Part w.log op piece → Goes op k
+      judged_first : (op : ℕ) (piece : Piece) (takes : Takes (node_step f) n w k p (Instance i) (Msg.Put op piece true) rest) → Part w.log op piece → Goes op k
           → Verdict (cs ++ at k p ∷ []) op (answer_by (piece_refusal i piece))
       judged_first op piece takes part going =
           let same : going.destination ≡ y = (let at_node = going.node_is in omega (arith, at_node)) in
@@ -228,7 +226,8 @@ module _ (F : Type 0) {R : Type 0} (f : Semantics R) (laws : FunctionLaws f) (al
             answer_is = answer_is i piece timed part.newest;
           }
 
-      ready_for : (m : Msg) (takes : Takes step n w k p (Instance i) m rest) → AreLabelled k m → Label f g p k m → steps.SaidBy F f alloc c items is cs w.log p
+      ready_for : (m : Msg) (takes : Takes (node_step f) n w k p (Instance i) m rest) → AreLabelled k m → Label f g p k m
+          → steps.SaidBy F f alloc c items is cs w.log p
           k m → steps.SaidBy F f alloc c items is (cs ++ at k p ∷ []) (w.log ++ (instance_step f i m).notes) p k m
           → IsReady (Part (w.log ++ (instance_step f i m).notes)) (Verdict (cs ++ at k p ∷ [])) Goes k f i m
       ready_for (Msg.Stream op filter) takes labels labelled said later =
@@ -237,13 +236,13 @@ module _ (F : Type 0) {R : Type 0} (f : Semantics R) (laws : FunctionLaws f) (al
       ready_for (Msg.Put op piece false) takes labels labelled said later = later
       ready_for m takes labels labelled said later = tt
 
-      at_instance : (m : Msg) (takes : Takes step n w k p (Instance i) m rest) → Label f g p k m → AreLabelled k m → Leads k m takes
+      at_instance : (m : Msg) (takes : Takes (node_step f) n w k p (Instance i) m rest) → Label f g p k m → AreLabelled k m → Leads k m takes
       at_instance m takes labelled labels =
           let log = w.log ++ (instance_step f i m).notes in
           let later = cs ++ at k p ∷ [] in
           let does = instance_does (Part log) (Verdict later) Goes k f i m (ready_for m takes labels labelled (steps.said F f alloc c items is cs w refl h k p
           (Instance i) m rest takes) (steps.said_later F f alloc c items is cs w refl h k p (Instance i) m rest takes)) in
-          let left = taken_outcome step n w k p (Instance i) m rest takes in
+          let left = taken_outcome (node_step f) n w k p (Instance i) m rest takes in
           let fixed = fixed_here takes.receiver in
           steps.leaves_other F f alloc c items is cs w refl h k p (Instance i) m rest takes (λ never. absurd (omega (arith, never)))
           (instance_says f g k i m).notes_are labels does.says does.given
@@ -251,7 +250,7 @@ module _ (F : Type 0) {R : Type 0} (f : Semantics R) (laws : FunctionLaws f) (al
           (λ on.
           let same : z ≡ y = (Decides-eqb z y).0 on in
           let own : (instance_step f i m).node ≡ x = same_instance (instance_step f i m).node x (sym (left.own (Instance x))
-          ∙ subst (λ q. get_or (world_next step w (at k p)).nodes (suc (suc q)) (Instance x) ≡ Instance x) same (e (Instance x))) in
+          ∙ subst (λ q. get_or (world_next (node_step f) w (at k p)).nodes (suc (suc q)) (Instance x) ≡ Instance x) same (e (Instance x))) in
           record {
             limit = ap (λ q. q.limit) (sym own) ∙ does.limit ∙ fixed.limit ∙ ap (λ q. slice_index c.limits q) (sym same);
             marked = ap (λ q. q.marked) (sym own) ∙ does.marked ∙ fixed.marked ∙ ap (λ q. slice_index_or c.marked q false) (sym same);
@@ -260,8 +259,8 @@ module _ (F : Type 0) {R : Type 0} (f : Semantics R) (laws : FunctionLaws f) (al
           (λ e'. (let bad : z ≡ y = omega (arith, e') in let never : true ≡ false = sym ((Decides-eqb z y).1 bad) ∙ off in cc)) small x e))
 
     -- a choice that is taken
-    pub judging_next : (k : ℕ) (m : Msg) (takes : Takes step n w k p (node_of j.nodes k) m rest) → Label f g p k m → AreLabelled k m
-        → Judging F f alloc c items is (cs ++ at k p ∷ []) (world_next step w (at k p)) (world_next step w (at k p)).log
+    pub judging_next : (k : ℕ) (m : Msg) (takes : Takes (node_step f) n w k p (node_of j.nodes k) m rest) → Label f g p k m → AreLabelled k m
+        → Judging F f alloc c items is (cs ++ at k p ∷ []) (world_next (node_step f) w (at k p)) (world_next (node_step f) w (at k p)).log
     judging_next zero m takes labelled labels =
         steps.leaves F f alloc c items is cs w refl h 0 p (node_of j.nodes 0) m rest takes (at_switch m takes labelled labels)
     judging_next (suc zero) m takes labelled labels =

@@ -5,7 +5,7 @@ use Rattle.nf_net.proofs.Words.{FunctionLaws, Semantics, is_among, same_unit_equ
 use Rattle.nf_net.proofs.Words.{IsRun, run, world_next, queue_at, at, run_more, Takes, Outcome, taken_outcome, Config, Node, Switch, Controller, processed_of}
 use Rattle.nf_net.proofs.Words.{IsInput, order_numbered, with_units, without_units, gained_by, is_first_of, is_shared_away, node_step, node_ready}
 use Rattle.nf_net.proofs.Words.{unit_numbered, live_in, live_at, removed_by, live_number, Given, node_of, IsTaken, scene, Wants, node_leads, instance_quiet}
-use Rattle.nf_net.proofs.Words.{Runs, run_beside, given, all_fit, count_at_start, Unit, Order, Instance, split}
+use Rattle.nf_net.proofs.Words.{Runs, run_beside, given, all_fit, count_at_start, Unit, Order, Instance, split, ◌+◌}
 use Rattle.std.specs.Prelude.{drop}
 use Rattle.std.specs.FinMap as finite
 use Rattle.std.proofs.Math.Seq.{drop-append_seam}
@@ -39,9 +39,6 @@ module _ (F : Type 0) {R : Type 0} (f : Semantics R) (laws : FunctionLaws f) (al
   abbrev g : Given
   g = given f c items is
 
-  abbrev n : ℕ
-  n = count F f laws alloc c items is
-
   abbrev first : Network (Node F R) Msg Note
   first = start F f laws alloc c items is
 
@@ -65,7 +62,8 @@ module _ (F : Type 0) {R : Type 0} (f : Semantics R) (laws : FunctionLaws f) (al
       → live_at (run (node_step f) cs first) y (unit_numbered c items f.kind k) ≡ None
   away_nothing cs runs y k away =
       let r : Runs F f laws alloc c items is (run (node_step f) cs first) = run_beside F f laws alloc c items is cs runs in
-      nothing_live f c items is n refl (run (node_step f) cs first) r.joined r.beside.kept.apart (run_busy F f laws alloc c items is cs runs).1
+      nothing_live f c items is (length c.names + 2) refl (run (node_step f) cs first) r.joined r.beside.kept.apart
+      (run_busy F f laws alloc c items is cs runs).1
       (unit_numbered c items f.kind k) (units_fit f c items is k) (owners_stay F f laws alloc c items is cs runs)
       (after_world F f laws alloc c items is cs runs).1 y away
 
@@ -73,7 +71,8 @@ module _ (F : Type 0) {R : Type 0} (f : Semantics R) (laws : FunctionLaws f) (al
   none_live : (i : ℕ) (u : Unit) → live_at first i u ≡ None
   none_live i u =
       let r : Runs F f laws alloc c items is first = run_beside F f laws alloc c items is [] tt in
-      let h : IsOfFront f c items (processed_of f c items u []) (live_at first i u) = lives_front f c items is n first (count_at_start F f alloc c items is)
+      let h : IsOfFront f c items (processed_of f c items u []) (live_at first i u) = lives_front f c items is (length c.names + 2) first
+      (count_at_start F f alloc c items is)
       r.joined i u in
       let none : h.front ≡ [] = none_before h.front h.is_front.rest h.is_front.whole in
       sym h.folds ∙ ap (fold f c items None) none
@@ -106,23 +105,25 @@ module _ (F : Type 0) {R : Type 0} (f : Semantics R) (laws : FunctionLaws f) (al
         ap (λ us. is_among us u) (next_is i ∙ unchanged) ∙ h.same i u ∙ sym (ap is_some (stays u))
 
     once_next : (i : ℕ) → AreOnce (by i (cs ++ d ∷ []))
-    once_next i = subst AreOnce (sym (next_is i)) (elim (d.node == instance_node i) as (λ t. AreOnce (if t then with_units
-        (without_units (lost_by (queue_at w d)) (by i cs)) (flat_map (gained_by c items f.kind i w.log) (drop (length w.log) v.log)) else by i cs)) [
-          | true ↦ with_once (without_units (lost_by (queue_at w d)) (by i cs)) (flat_map (gained_by c items f.kind i w.log) (drop (length w.log) v.log))
-              (without_once (lost_by (queue_at w d)) (by i cs) (h.once i))
-          | false ↦ h.once i
-        ])
+    once_next i = subst AreOnce (sym (next_is i))
+        (split (d.node == instance_node i)
+        (λ t. AreOnce (if t then with_units (without_units (lost_by (queue_at w d)) (by i cs))
+        (flat_map (gained_by c items f.kind i w.log) (drop (length w.log) v.log)) else by i cs))
+        (λ _. with_once (without_units (lost_by (queue_at w d)) (by i cs)) (flat_map (gained_by c items f.kind i w.log) (drop (length w.log) v.log))
+        (without_once (lost_by (queue_at w d)) (by i cs) (h.once i))) (λ _. h.once i))
 
     module _ (p : ℕ) (m : Msg) (rest : List Msg) where
-      stays_at : (k : ℕ) (takes : Takes (node_step f) n w k p (node_of r.joined.nodes k) m rest) (i : ℕ) → instance_node i ≢ k → (u : Unit)
+      stays_at : (k : ℕ) (takes : Takes (node_step f) (length c.names + 2) w k p (node_of r.joined.nodes k) m rest) (i : ℕ) → instance_node i ≢ k → (u : Unit)
           → live_at (world_next (node_step f) w (at k p)) i u ≡ live_at w i u
       stays_at k takes i off u =
-          let left = taken_outcome (node_step f) n w k p (node_of r.joined.nodes k) m rest takes in
+          let left = taken_outcome (node_step f) (length c.names + 2) w k p (node_of r.joined.nodes k) m rest takes in
           ap (live_in u) (same_place w.nodes (world_next (node_step f) w (at k p)).nodes (instance_node i) (takes.count ∙ sym left.count)
           (λ x. left.others (instance_node i) x off))
 
-      module _ (y : ℕ) (takes : Takes (node_step f) n w (suc (suc y)) p (node_of r.joined.nodes (suc (suc y))) m rest) (t : IsTaken f g n
-          (scene f g n refl (Wants f g) (node_leads f laws g (all_fit f c items is) n) w r.joined) (record { node = suc (suc y); port = p; message = m }))
+      module _ (y : ℕ) (takes : Takes (node_step f) (length c.names + 2) w (suc (suc y)) p (node_of r.joined.nodes (suc (suc y))) m rest)
+          (t : IsTaken f g (length c.names + 2)
+          (scene f g (length c.names + 2) refl (Wants f g) (node_leads f laws g (all_fit f c items is) (length c.names + 2)) w r.joined)
+          (record { node = suc (suc y); port = p; message = m }))
           (d_is : d ≡ at (suc (suc y)) p) where
         abbrev own : InstanceState F R
         own = r.joined.nodes.instance (suc (suc y))
@@ -133,8 +134,8 @@ module _ (F : Type 0) {R : Type 0} (f : Semantics R) (laws : FunctionLaws f) (al
         abbrev u_at : Network (Node F R) Msg Note
         u_at = world_next (node_step f) w (at (suc (suc y)) p)
 
-        out : Outcome (node_step f) n w (suc (suc y)) p (node_of r.joined.nodes (suc (suc y))) m rest u_at
-        out = taken_outcome (node_step f) n w (suc (suc y)) p (node_of r.joined.nodes (suc (suc y))) m rest takes
+        out : Outcome (node_step f) (length c.names + 2) w (suc (suc y)) p (node_of r.joined.nodes (suc (suc y))) m rest u_at
+        out = taken_outcome (node_step f) (length c.names + 2) w (suc (suc y)) p (node_of r.joined.nodes (suc (suc y))) m rest takes
 
         node_is : instance_node y ≡ suc (suc y)
         node_is = omega arith
@@ -173,15 +174,16 @@ module _ (F : Type 0) {R : Type 0} (f : Semantics R) (laws : FunctionLaws f) (al
         copied : (op : ℕ) (chunks : List Chunk) → m ≡ Msg.Standby op chunks → is_first_of c items (order_numbered items op) y ≡ false
         copied op chunks is_so =
             let some = takes.receiver in
-            let open_so = token_open f g n w r.joined (suc (suc y)) p op chunks rest (omega (arith, some))
-            (subst (λ x. Takes (node_step f) n w (suc (suc y)) p (node_of r.joined.nodes (suc (suc y))) x rest) is_so takes) r.beside.tokens in
+            let open_so = token_open f g (length c.names + 2) w r.joined (suc (suc y)) p op chunks rest (omega (arith, some))
+            (subst (λ x. Takes (node_step f) (length c.names + 2) w (suc (suc y)) p
+            (node_of r.joined.nodes (suc (suc y))) x rest) is_so takes) r.beside.tokens in
             let its = r.joined.shown_is.controller.copies op open_so.copy open_so.there in
             let what : order_numbered items op ≡ Some (Order.Copy its.plan.source its.plan.destination open_so.copy.plan.filter) =
             ap (order_numbered items) (sym its.op_is) ∙ its.plan.order_is in
             ap (λ o. is_first_of c items o y) what
 
         goes : Lives f laws c items is y w.log own (r.joined.shown_is.instances (suc (suc y)) (omega arith) takes.receiver).rules.at m did
-        goes = step_lives f laws c items is n refl w r.joined r.beside.kept.apart (run_busy F f laws alloc c items is cs runs).1
+        goes = step_lives f laws c items is (length c.names + 2) refl w r.joined r.beside.kept.apart (run_busy F f laws alloc c items is cs runs).1
             (homes_of F f laws alloc c items is cs runs r) (owners_stay F f laws alloc c items is cs runs) p y takes.receiver m t copied free
 
         own_same : Same y
@@ -213,8 +215,9 @@ module _ (F : Type 0) {R : Type 0} (f : Semantics R) (laws : FunctionLaws f) (al
             let other : (d.node == instance_node i) ≡ false = ap (λ x. x.node == instance_node i) d_is ∙ other_node i y off in
             other_same i other (λ u. ap (λ x. live_at x i u) v_is ∙ stays_at (suc (suc y)) takes i apart u))
 
-      each_same : (k : ℕ) → Takes (node_step f) n w k p (node_of r.joined.nodes k) m rest → IsTaken f g n
-          (scene f g n refl (Wants f g) (node_leads f laws g (all_fit f c items is) n) w r.joined) (record { node = k; port = p; message = m })
+      each_same : (k : ℕ) → Takes (node_step f) (length c.names + 2) w k p (node_of r.joined.nodes k) m rest → IsTaken f g (length c.names + 2)
+          (scene f g (length c.names + 2) refl (Wants f g) (node_leads f laws g (all_fit f c items is) (length c.names + 2)) w r.joined)
+          (record { node = k; port = p; message = m })
           → d ≡ at k p → (i : ℕ) → Same i
       each_same zero takes t d_is i = other_same i (ap (λ x. x.node == instance_node i) d_is ∙ no_instance 0 i (omega arith))
           (λ u. ap (λ x. live_at x i u) (ap (world_next (node_step f) w) d_is) ∙ stays_at 0 takes i (λ e. absurd (omega (arith, e))) u)

@@ -50,10 +50,8 @@ without_in gone (u ∷ us) q = split (is_among gone u)
 
 pub without_once : (gone us : List Unit) → AreOnce us → AreOnce (without_units gone us)
 without_once gone [] h = tt
-without_once gone (u ∷ us) h = elim (is_among gone u) as (λ t. AreOnce (cond (not t) (u ∷ without_units gone us) (without_units gone us))) [
-  | true ↦ without_once gone us h.1
-  | false ↦ (let off = h.0 in without_in gone us u ∙ rw off refl, without_once gone us h.1)
-]
+without_once gone (u ∷ us) h = split (is_among gone u) (λ t. AreOnce (cond (not t) (u ∷ without_units gone us) (without_units gone us)))
+    (λ _. without_once gone us h.1) (λ _. (let off = h.0 in without_in gone us u ∙ rw off refl, without_once gone us h.1))
 
 module _ {R : Type 0} where
   -- a map with a record isn't empty

@@ -55,19 +55,16 @@ module _ {R : Type 0} (S : Sys R) (A : Sharing S) (laws : IsSys S) (u : Unit) wh
   ran_there y q mine [] back = ([], ran_of S A u (at_node y back), rw mine refl)
   ran_there y q mine (p ∷ front) back =
       let r = ran_there y q mine front back in
-      elim (same_unit (S.packet_unit p) u) as (λ b. (before : List Ran) × (after : List Ran)
-      × ((if b then (p, y) ∷ ran_of S A u (at_node y (front ++ q ∷ back)) else ran_of S A u (at_node y (front ++ q ∷ back))) ≡ before ++ (q, y) ∷ after)) [
-        | true ↦ ((p, y) ∷ r.0, r.1, ap (λ v. (p, y) ∷ v) r.2)
-        | false ↦ r
-      ]
+      split (same_unit (S.packet_unit p) u)
+      (λ b. (before : List Ran) × (after : List Ran) ×
+      ((if b then (p, y) ∷ ran_of S A u (at_node y (front ++ q ∷ back)) else ran_of S A u (at_node y (front ++ q ∷ back))) ≡ before ++ (q, y) ∷ after))
+      (λ _. ((p, y) ∷ r.0, r.1, ap (λ v. (p, y) ∷ v) r.2)) (λ _. r)
 
   pub mine_there : (q : ℕ) → same_unit (S.packet_unit q) u ≡ true → (front back : List ℕ) → none_mine S u (front ++ q ∷ back) ≢ []
   mine_there q mine [] back none = let some : q ∷ none_mine S u back ≡ [] = rw mine at none in cc
   mine_there q mine (p ∷ front) back none =
-      elim (same_unit (S.packet_unit p) u) as (λ b. (if b then p ∷ none_mine S u (front ++ q ∷ back) else none_mine S u (front ++ q ∷ back)) ≡ [] → ⊥) [
-        | true ↦ λ never. cc
-        | false ↦ λ rest. mine_there q mine front back rest
-      ] none
+      split (same_unit (S.packet_unit p) u) (λ b. (if b then p ∷ none_mine S u (front ++ q ∷ back) else none_mine S u (front ++ q ∷ back)) ≡ [] → ⊥)
+      (λ _ never. cc) (λ _ rest. mine_there q mine front back rest) none
 
   -- A packet of the unit that came while its packets were diverted, once, and was done
   module _ (w : WholeWorld S A) (k : Came) (p y : ℕ) (once : times p k.all ≤ 1) (came : 1 ≤ times p k.diverted) (front back : List Ran)

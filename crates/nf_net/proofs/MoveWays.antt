@@ -1,7 +1,7 @@
 -- The ways in which a move goes on: each of its rows says something, and goes to a phase. What holds of each way holds of the row on any message.
 use Rattle.nf_net.proofs.Words.{ℕ, Bool, true, false, Option, Some, None, List, [], ◌∷◌, ◌++◌, map, if◌then◌else◌, ◌&&◌, ◌||◌, ◌==◌, FullCell, Answer, Piece}
 use Rattle.nf_net.proofs.Words.{Msg, units_in, Door, Phase, Nothing, Ask, Put, Release, Give_back, MovePlan, MoveRow, source, destination, put_to, forward_to}
-use Rattle.nf_net.proofs.Words.{messages_of, Target, Done}
+use Rattle.nf_net.proofs.Words.{messages_of, Target, Done, split}
 use Rattle.actor_net.proofs.WeightLaws.{Each, each-append}
 use Rattle.nf_msgs.specs.declared.msg.Refused.{Refused}
 use Rattle.move_op.specs.Phases as phase
@@ -80,11 +80,11 @@ module _ (plan : MovePlan) (events : List FullCell) (Allows : Phase → Msg → 
   push_fits ph m a b came (Door.Asked last) goes = goes (phase.Streaming a b came (Door.Asked last)) Nothing Waits
   push_fits ph m a b came Door.Open goes = goes (phase.Streaming a [] came Door.Open) (Put b) Puts
   push_fits ph m a b came (Door.Refused why) goes =
-      elim (came && is_nil a) as (λ c. Allows ph m (keeps (if c then next_phase (phase.Restoring why) ((source plan, Msg.Restore plan.op (chunks_of b)) ∷ [])
-      else next_phase (phase.Streaming a b came (Door.Refused why)) []))) [
-        | true ↦ goes (phase.Restoring why) (Restore b) Restores
-        | false ↦ goes (phase.Streaming a b came (Door.Refused why)) Nothing Waits
-      ]
+      split (came && is_nil a)
+      (λ c. Allows ph m (keeps
+      (if c then next_phase (phase.Restoring why) ((source plan, Msg.Restore plan.op (chunks_of b)) ∷ []) else next_phase
+      (phase.Streaming a b came (Door.Refused why)) [])))
+      (λ _. goes (phase.Restoring why) (Restore b) Restores) (λ _. goes (phase.Streaming a b came (Door.Refused why)) Nothing Waits)
 
   all_put_fits : (a b : List Piece) (came : Bool) (d : Door) (op : ℕ) → IsPut d → (keep : Bool)
       → Allows (phase.Streaming a b came d) (Msg.PutOk op) (all_put (words plan) events keep)
@@ -103,12 +103,12 @@ module _ (plan : MovePlan) (events : List FullCell) (Allows : Phase → Msg → 
   enabled_fits ph op = stays ph (Msg.Enabled op)
 
   piece_fits : (ph : Phase) (op : ℕ) (p : Piece) → Allows ph (Msg.Piece op p) (keeps (on_piece (words plan) ph p))
-  piece_fits (phase.Streaming a b came d) op p = elim (have_units p.chunks) as (λ t. Allows (phase.Streaming a b came d) (Msg.Piece op p)
-      (keeps (if t then next_phase (phase.Streaming (a ++ p ∷ []) b (came || p.last) d) ((source plan, Msg.Delete plan.op (units_in p.chunks)) ∷ [])
-      else next_phase (phase.Streaming a b came d) []))) [
-        | true ↦ fits (phase.Streaming a b came d) (Msg.Piece op p) (only (phase.Streaming (a ++ p ∷ []) b (came || p.last) d) (Remove p)) Removes
-        | false ↦ stays (phase.Streaming a b came d) (Msg.Piece op p)
-      ]
+  piece_fits (phase.Streaming a b came d) op p = split (have_units p.chunks)
+      (λ t. Allows (phase.Streaming a b came d) (Msg.Piece op p)
+      (keeps (if t then next_phase (phase.Streaming (a ++ p ∷ []) b (came || p.last) d)
+      ((source plan, Msg.Delete plan.op (units_in p.chunks)) ∷ []) else next_phase (phase.Streaming a b came d) [])))
+      (λ _. fits (phase.Streaming a b came d) (Msg.Piece op p) (only (phase.Streaming (a ++ p ∷ []) b (came || p.last) d) (Remove p)) Removes)
+      (λ _. stays (phase.Streaming a b came d) (Msg.Piece op p))
   piece_fits ph op p = stays ph (Msg.Piece op p)
 
   deleted_fits : (ph : Phase) (op : ℕ) → Allows ph (Msg.Deleted op) (keeps (on_deleted (words plan) ph))
@@ -169,12 +169,12 @@ module _ (plan : MovePlan) (events : List FullCell) (Allows : Phase → Msg → 
 
   pub move_fits : (ph : Phase) (port : ℕ) (m : Msg) → Allows ph m (row (record { plan = plan; phase = ph }) events port m)
   move_fits ph port m =
-      elim (port == source plan) as (λ b. Allows ph m
-      (if b then from_source plan ph events m else if port == destination plan then from_destination plan ph events m else keeps (next_phase ph []))) [
-        | true ↦ source_fits ph m
-        | false ↦ elim (port == destination plan) as (λ b. Allows ph m (if b then from_destination plan ph events m else keeps (next_phase ph [])))
-            [ true ↦ destination_fits ph m | false ↦ stays ph m ]
-      ]
+      split (port == source plan)
+      (λ b. Allows ph m (if b then from_source plan ph events m else if port == destination plan then from_destination plan ph events m else keeps
+      (next_phase ph [])))
+      (λ _. source_fits ph m)
+      (λ _. elim (port == destination plan) as (λ b. Allows ph m (if b then from_destination plan ph events m else keeps (next_phase ph [])))
+      [ true ↦ destination_fits ph m | false ↦ stays ph m ])
 
 -- what holds of the messages of a word, if it holds of a piece that is put and of a parcel that goes on, and of the one message that it has else
 abbrev pub OfWord : (Msg → Type 0) → MovePlan → Said FullCell Piece → Type 0

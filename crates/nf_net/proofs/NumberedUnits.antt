@@ -1,7 +1,7 @@
 -- The unit of the packet with any number is one that packets may have; and what an instance notes as processed is among what ran.
 use Rattle.nf_net.proofs.Words.{◌≡◌, ℕ, Bool, true, false, Option, Some, None, List, [], ◌∷◌, ◌++◌, refl, ap, if◌then◌else◌, ◌&&◌, ◌==◌, not, find, unwrap_or}
 use Rattle.nf_net.proofs.Words.{cons_option, filter_map, Packet, Site, Flow, Output, Semantics, Msg, Note, Each, Config, packet_numbered, IsInput}
-use Rattle.nf_net.proofs.Words.{unit_numbered, flow_fits, unit_fits, all_each, ran_in, unit_is_fit, flow_of}
+use Rattle.nf_net.proofs.Words.{unit_numbered, flow_fits, unit_fits, all_each, ran_in, unit_is_fit, flow_of, split}
 use Rattle.flow_filter.specs.declared.flow.Direction.{Direction}
 use Rattle.flow_filter.specs.declared.flow.Direction.TheVariants.{Out, In}
 use Rattle.flow_filter.specs.Flow.{is_inside, outward, inward}
@@ -27,10 +27,8 @@ module _ {R : Type 0} (f : Semantics R) (c : Config) (items : List Msg) (is : Is
       → flow_fits (flow_of c.site (unwrap_or (find (λ p. p.number == k) ps) no_packet)).0 ≡ true
   flow_found k [] h = no_packet_fits c.site
   flow_found k (p ∷ ps) h =
-      elim (p.number == k) as (λ b. flow_fits (flow_of c.site (unwrap_or (if b then Some p else find (λ q. q.number == k) ps) no_packet)).0 ≡ true) [
-        | true ↦ fits_flow (flow_of c.site p).0 h.0.flow
-        | false ↦ flow_found k ps h.1
-      ]
+      split (p.number == k) (λ b. flow_fits (flow_of c.site (unwrap_or (if b then Some p else find (λ q. q.number == k) ps) no_packet)).0 ≡ true)
+      (λ _. fits_flow (flow_of c.site p).0 h.0.flow) (λ _. flow_found k ps h.1)
 
   pub units_fit : (k : ℕ) → unit_fits f.kind (unit_numbered c items f.kind k) ≡ true
   units_fit k = unit_is_fit f.kind (flow_of c.site (packet_numbered items k)).0

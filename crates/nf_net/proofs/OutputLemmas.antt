@@ -1,8 +1,8 @@
 -- Packets that were processed are answered as one instance answers them: what an instance notes, from the records that it has.
-use Rattle.nf_net.proofs.Words.{◌≡◌, ◌≢◌, ℕ, Bool, true, false, Option, Some, None, List, [], ◌∷◌, ◌++◌, map, refl, sym, ap, ◌∙◌, subst, if◌then◌else◌}
-use Rattle.nf_net.proofs.Words.{filter_map, map-append, Site, Output, Semantics, unit_at, kept_after, is_transport, Records, same_unit, after_packet}
-use Rattle.nf_net.proofs.Words.{same_unit-true, FullCell, Msg, Note, Each, each-append, Sys, none_mine, Config, packet_numbered, dones_in, done_where, is_of}
-use Rattle.nf_net.proofs.Words.{outputs, number, ran_in, is_sys, IsGenuine, Unit, split}
+use Rattle.nf_net.proofs.Words.{◌≡◌, ◌≢◌, ℕ, Bool, true, Option, Some, None, List, [], ◌∷◌, ◌++◌, map, refl, sym, ap, ◌∙◌, subst, if◌then◌else◌, filter_map}
+use Rattle.nf_net.proofs.Words.{map-append, Site, Output, Semantics, unit_at, kept_after, is_transport, Records, same_unit, after_packet, same_unit-true}
+use Rattle.nf_net.proofs.Words.{FullCell, Msg, Note, Each, each-append, Sys, none_mine, Config, packet_numbered, dones_in, done_where, is_of, outputs, number}
+use Rattle.nf_net.proofs.Words.{ran_in, is_sys, IsGenuine, Unit, split}
 use Rattle.std.specs.FinMap as finite
 use Rattle.nf_function.specs.Semantics.{output_for}
 use Rattle.net_world.specs.Log.{Done}
@@ -16,11 +16,10 @@ IsCarried items p = is_transport (packet_numbered items p).proto ≡ true
 
 done_of-append : (mine : ℕ → Bool) (xs ys : List Done) → done_where mine (xs ++ ys) ≡ done_where mine xs ++ done_where mine ys
 done_of-append mine [] ys = refl
-done_of-append mine (x ∷ xs) ys = elim (mine x.number) as (λ b. (if b then x ∷ done_where mine (xs ++ ys) else done_where mine (xs ++ ys))
-    ≡ (if b then x ∷ done_where mine xs else done_where mine xs) ++ done_where mine ys) [
-      | true ↦ ap (λ v. x ∷ v) (done_of-append mine xs ys)
-      | false ↦ done_of-append mine xs ys
-    ]
+done_of-append mine (x ∷ xs) ys = split (mine x.number)
+    (λ b. (if b then x ∷ done_where mine (xs ++ ys) else done_where mine (xs ++ ys)) ≡ (if b then x ∷ done_where mine xs else done_where mine xs)
+    ++ done_where mine ys)
+    (λ _. ap (λ v. x ∷ v) (done_of-append mine xs ys)) (λ _. done_of-append mine xs ys)
 
 module _ {R : Type 0} (f : Semantics R) (c : Config) (items : List Msg) where
   -- a unit's packets among what was done, and the answers to them
@@ -142,10 +141,9 @@ module _ {R : Type 0} (f : Semantics R) (c : Config) (items : List Msg) where
   pub numbers_ran : (u : Unit) (ns : List Note) → numbers u (dones_in ns) ≡ none_mine net u (filter_map ran_in ns)
   numbers_ran u [] = refl
   numbers_ran u (Note.Processed n instance output ∷ ns) =
-      elim (is_of f c items u n) as (λ b. map (λ d. d.number) (if b then (record { number = n; instance = instance; output = output })
-      ∷ done_where (is_of f c items u) (dones_in ns) else done_where (is_of f c items u) (dones_in ns))
-      ≡ (if b then n ∷ none_mine net u (filter_map ran_in ns) else none_mine net u (filter_map ran_in ns))) [
-        | true ↦ ap (λ v. n ∷ v) (numbers_ran u ns)
-        | false ↦ numbers_ran u ns
-      ]
+      split (is_of f c items u n)
+      (λ b. map (λ d. d.number)
+      (if b then (record { number = n; instance = instance; output = output }) ∷ done_where (is_of f c items u) (dones_in ns) else done_where
+      (is_of f c items u) (dones_in ns)) ≡ (if b then n ∷ none_mine net u (filter_map ran_in ns) else none_mine net u (filter_map ran_in ns)))
+      (λ _. ap (λ v. n ∷ v) (numbers_ran u ns)) (λ _. numbers_ran u ns)
   numbers_ran u (n ∷ ns) = numbers_ran u ns

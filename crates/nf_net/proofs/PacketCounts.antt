@@ -1,5 +1,5 @@
 -- At most as many packets are processed as came, where each is processed at most as often as it came; and as many, where it is as often.
-use Rattle.nf_net.proofs.Words.{◌≡◌, ℕ, suc, ◌+◌, ◌≤◌, Bool, true, false, List, [], ◌∷◌, map, length, refl, sym, ap, ◌∙◌, arith, if◌then◌else◌, ◌==◌, nat_tests}
+use Rattle.nf_net.proofs.Words.{◌≡◌, ℕ, suc, ◌+◌, ◌≤◌, Bool, true, List, [], ◌∷◌, map, length, refl, sym, ap, ◌∙◌, arith, if◌then◌else◌, ◌==◌, nat_tests}
 use Rattle.nf_net.proofs.Words.{Decides-eqb, length-map, Semantics, unit_at, same_unit_equiv, Msg, Note, Network, Config, Node, packet_numbered, IsInput}
 use Rattle.nf_net.proofs.Words.{arrivals_in, dones_in, done_where, is_of, arrived_of, processed_of, times_filter, given, Joined, Unit, split}
 use Rattle.net_world.specs.Log.{Done}
@@ -15,10 +15,8 @@ without p (q ∷ qs) = if p == q then qs else q ∷ without p qs
 without_long : (p : ℕ) (xs : List ℕ) → 1 ≤ times p xs → length xs ≡ suc (length (without p xs))
 without_long p [] some = absurd (omega (arith, some))
 without_long p (x ∷ xs) some =
-    elim (p == x) as (λ b. 1 ≤ (if b then 1 else 0) + times p xs → suc (length xs) ≡ suc (length (if b then xs else x ∷ without p xs))) [
-      | true ↦ λ _. refl
-      | false ↦ λ more. ap suc (without_long p xs (omega (arith, more)))
-    ] some
+    split (p == x) (λ b. 1 ≤ (if b then 1 else 0) + times p xs → suc (length xs) ≡ suc (length (if b then xs else x ∷ without p xs))) (λ _ _. refl)
+    (λ _ more. ap suc (without_long p xs (omega (arith, more)))) some
 
 without_times : (p q : ℕ) (xs : List ℕ) → 1 ≤ times p xs → times q xs ≡ (if q == p then 1 else 0) + times q (without p xs)
 without_times p q [] some = absurd (omega (arith, some))

@@ -15,9 +15,6 @@ processed_off front back number i output notes h e =
 
 module _ (F : Type 0) {R : Type 0} (f : Semantics R) (laws : FunctionLaws f) (alloc : Global) (c : Config) (items : List Msg)
     (is : IsInput f.kind c items) where
-  abbrev g : Given
-  g = given f c items is
-
   abbrev first : Network (Node F R) Msg Note
   first = start F f laws alloc c items is
 
@@ -34,10 +31,11 @@ module _ (F : Type 0) {R : Type 0} (f : Semantics R) (laws : FunctionLaws f) (al
       by_place (In_first cs here) = old before cs number i output here
       by_place (In_second cs from there) = subst (λ b. IsPlace (job_of f c items) number b i) (sym from) (new cs after number i output there)
 
-  module _ (w : Network (Node F R) Msg Note) (r : Runs F f laws alloc c items is w) (b : Busy g w) (h : Installs g w)
+  module _ (w : Network (Node F R) Msg Note) (r : Runs F f laws alloc c items is w) (b : Busy (given f c items is) w) (h : Installs (given f c items is) w)
       (busy : AreUnderWay f c items is (length c.names + 2) w r.joined) (says : SaysOfShares f c items w.log) where
-    at_places : (k p : ℕ) (m : Msg) → IsTaken f g (length c.names + 2)
-        (scene f g (length c.names + 2) refl (Wants f g) (node_leads f laws g (all_fit f c items is) (length c.names + 2)) w r.joined)
+    at_places : (k p : ℕ) (m : Msg) → IsTaken f (given f c items is) (length c.names + 2)
+        (scene f (given f c items is) (length c.names + 2) refl (Wants f (given f c items is))
+        (node_leads f laws (given f c items is) (all_fit f c items is) (length c.names + 2)) w r.joined)
         (record { node = k; port = p; message = m })
         → AtPlaces w.log (node_step f (node_of r.joined.nodes k) p m).notes
     at_places zero p m it front back number i output e =

@@ -91,13 +91,10 @@ module _ {F R : Type 0} (here : Reached F R) (in_turn : IsFront (arrivals_in her
       (λ e. ap (live_in u) (slice_get_past w.nodes (instance_node i) (rw nodes (ltb-false (instance_node i) n e))))
     where
       none_at : AreNone x.a.live x.b.live x.c.live → (m : ℕ) → (node_at (S f g) z x m).live ≡ None
-      none_at three m = elim (m == k.op.src) as (λ t. (if t then x.a else if m == k.op.dst then x.b else if m == k.third then x.c else idle None).live ≡ None) [
-        | true ↦ three.none_a
-        | false ↦ elim (m == k.op.dst) as (λ t. (if t then x.b else if m == k.third then x.c else idle None).live ≡ None) [
-          | true ↦ three.none_b
-          | false ↦ elim (m == k.third) as (λ t. (if t then x.c else idle None).live ≡ None) [ true ↦ three.none_c | false ↦ refl ]
-        ]
-      ]
+      none_at three m = split (m == k.op.src) (λ t. (if t then x.a else if m == k.op.dst then x.b else if m == k.third then x.c else idle None).live ≡ None)
+          (λ _. three.none_a)
+          (λ _. split (m == k.op.dst) (λ t. (if t then x.b else if m == k.third then x.c else idle None).live ≡ None) (λ _. three.none_b)
+          (λ _. elim (m == k.third) as (λ t. (if t then x.c else idle None).live ≡ None) [ true ↦ three.none_c | false ↦ refl ]))
 
   -- a unit with a record goes to an instance that is there
   owned : (r : R) → after (S f g).F x.done ≡ Some r → IsOwned here in_turn u at apart

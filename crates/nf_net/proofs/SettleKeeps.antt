@@ -1,10 +1,10 @@
 -- Of every run: what is processed came before, and where a packet behind a settle arrives, all commands before the settle are answered.
-use Rattle.nf_net.proofs.Words.{◌≡◌, ℕ, zero, suc, ◌+◌, ◌≤◌, Bool, true, false, Some, List, [], ◌∷◌, ◌++◌, map, length, length-append, append_assoc, refl, sym}
-use Rattle.nf_net.proofs.Words.{ap, ◌∙◌, subst, arith, if◌then◌else◌, ◌==◌, nat_lt, find, is_some, Global, nat_tests, Decides-ltb, Decides-eqb, map-append}
-use Rattle.nf_net.proofs.Words.{each_map, Packet, Output, FunctionLaws, Semantics, same_unit_equiv, Command, Msg, Note, Choice, Network, Stepped, IsRun, run}
-use Rattle.nf_net.proofs.Words.{world_next, queue_at, at, opening_waiting, opening_weight, total, switch_step, controller_step, Config, Node, has_answered}
-use Rattle.nf_net.proofs.Words.{commands, IsInput, arrivals_in, dones_in, done_where, node_step, node_ready, unit_numbered, is_of, processed_of, has_packet}
-use Rattle.nf_net.proofs.Words.{first_nodes, first_switch, arrived-append, Joined, Label, node_of, Stands, In_first, In_second, stands, switch_unprocessed}
+use Rattle.nf_net.proofs.Words.{◌≡◌, ℕ, zero, suc, ◌+◌, ◌≤◌, Bool, true, Some, List, [], ◌∷◌, ◌++◌, map, length, length-append, append_assoc, refl, sym, ap}
+use Rattle.nf_net.proofs.Words.{◌∙◌, subst, arith, if◌then◌else◌, ◌==◌, nat_lt, find, is_some, Global, nat_tests, Decides-ltb, Decides-eqb, map-append}
+use Rattle.nf_net.proofs.Words.{each_map, Packet, Output, FunctionLaws, Semantics, same_unit_equiv, Command, Msg, Note, Choice, Network, IsRun, run, world_next}
+use Rattle.nf_net.proofs.Words.{queue_at, at, opening_waiting, opening_weight, total, switch_step, controller_step, Config, Node, has_answered, commands}
+use Rattle.nf_net.proofs.Words.{IsInput, arrivals_in, dones_in, done_where, node_step, node_ready, unit_numbered, is_of, processed_of, has_packet, first_nodes}
+use Rattle.nf_net.proofs.Words.{first_switch, arrived-append, Joined, Label, node_of, Stands, In_first, In_second, stands, switch_unprocessed}
 use Rattle.nf_net.proofs.Words.{controller_uninstalled, uninstalled_unprocessed, given, all_labelled, count_at_start, Unit, nowhere, split, either_way}
 use Rattle.net_world.specs.Input.{packets}
 use Rattle.net_world.specs.Fold.{times}
@@ -32,12 +32,11 @@ has_times p (q ∷ qs) h = split (q.number == p)
 some_went : (mine : ℕ → Bool) (p i : ℕ) (output : Output) (after : List Note) → mine p ≡ true → (before : List Note)
     → 1 ≤ times p (map (λ d. d.number) (done_where mine (dones_in (before ++ Note.Processed p i output ∷ after))))
 some_went mine p i output after own [] = let self : (p == p) ≡ true = grind (arith, nat_tests) in rw (own, self) (omega arith)
-some_went mine p i output after own (Note.Processed q k o ∷ before) = elim (mine q) as (λ b. 1 ≤ times p (map (λ d. d.number)
-    (if b then record { number = q; instance = k; output = o } ∷ done_where mine (dones_in (before ++ Note.Processed p i output ∷ after))
-    else done_where mine (dones_in (before ++ Note.Processed p i output ∷ after))))) [
-      | true ↦ (let rest = some_went mine p i output after own before in omega (arith, rest))
-      | false ↦ some_went mine p i output after own before
-    ]
+some_went mine p i output after own (Note.Processed q k o ∷ before) = split (mine q)
+    (λ b. 1 ≤ times p (map (λ d. d.number)
+    (if b then record { number = q; instance = k; output = o } ∷ done_where mine
+    (dones_in (before ++ Note.Processed p i output ∷ after)) else done_where mine (dones_in (before ++ Note.Processed p i output ∷ after)))))
+    (λ _. (let rest = some_went mine p i output after own before in omega (arith, rest))) (λ _. some_went mine p i output after own before)
 some_went mine p i output after own (n ∷ before) = some_went mine p i output after own before
 
 -- a packet that arrived
@@ -66,9 +65,6 @@ arrived_there first rest p =
 
 module _ (F : Type 0) {R : Type 0} (f : Semantics R) (laws : FunctionLaws f) (alloc : Global) (c : Config) (items : List Msg)
     (is : IsInput f.kind c items) where
-  abbrev step : Node F R → ℕ → Msg → Stepped (Node F R) Msg Note
-  step = node_step f
-
   abbrev at_start : Network (Node F R) Msg Note
   at_start = start F f laws alloc c items is
 
@@ -132,10 +128,10 @@ module _ (F : Type 0) {R : Type 0} (f : Semantics R) (laws : FunctionLaws f) (al
     j = s.runs.joined
 
     abbrev v : Network (Node F R) Msg Note
-    v = world_next step w d
+    v = world_next (node_step f) w d
 
     abbrev its_notes : List Note
-    its_notes = (step (node_of j.nodes d.node) d.port s.taking.message).notes
+    its_notes = (node_step f (node_of j.nodes d.node) d.port s.taking.message).notes
 
     next : InRun F f laws alloc c items is v
     next = next_in_run F f laws alloc c items is w d s turn
@@ -163,14 +159,16 @@ module _ (F : Type 0) {R : Type 0} (f : Semantics R) (laws : FunctionLaws f) (al
         omega (arith, went_some, few, less, same)
 
     new_came : (k p : ℕ) (m : Msg) → d.node ≡ k → d.port ≡ p → s.taking.message ≡ m → (before after : List Note) (q i : ℕ) (output : Output)
-        → (step (node_of j.nodes k) p m).notes ≡ before ++ Note.Processed q i output ∷ after → 1 ≤ times q (arrivals_in w.log)
+        → (node_step f (node_of j.nodes k) p m).notes ≡ before ++ Note.Processed q i output ∷ after → 1 ≤ times q (arrivals_in w.log)
     new_came zero p m dk dp tm before after q i output e =
         absurd (processed_off before after q i output (switch_step j.nodes.switch m).notes (switch_unprocessed j.nodes.switch m) e)
     new_came (suc zero) p m dk dp tm before after q i output e = absurd (processed_off before after q i output
         (controller_step j.nodes.controller p m).notes (uninstalled_unprocessed _ (controller_uninstalled j.nodes.controller p m)) e)
     new_came (suc (suc y)) p m dk dp tm before after q i output e =
-        let same : its_notes ≡ (step (node_of j.nodes (suc (suc y))) p m).notes = ap (λ x. (step (node_of j.nodes x) d.port s.taking.message).notes) dk
-        ∙ ap (λ x. (step (node_of j.nodes (suc (suc y))) x s.taking.message).notes) dp ∙ ap (λ x. (step (node_of j.nodes (suc (suc y))) p x).notes) tm in
+        let same : its_notes ≡ (node_step f (node_of j.nodes (suc (suc y))) p m).notes = ap
+        (λ x. (node_step f (node_of j.nodes x) d.port s.taking.message).notes) dk
+        ∙ ap (λ x. (node_step f (node_of j.nodes (suc (suc y))) x s.taking.message).notes) dp ∙ ap
+        (λ x. (node_step f (node_of j.nodes (suc (suc y))) p x).notes) tm in
         came_before q i output before after (same ∙ e) (ap arrivals_in same ∙ instance_notes_none f (j.nodes.instance (suc (suc y))) m)
 
     -- a packet that arrives came behind what was taken of the input
@@ -189,11 +187,11 @@ module _ (F : Type 0) {R : Type 0} (f : Semantics R) (laws : FunctionLaws f) (al
 
     new_answered : (k p : ℕ) (m : Msg) → d.node ≡ k → d.port ≡ p → s.taking.message ≡ m → Label f (given f c items is) p k m → (front behind : List Msg)
         → items ≡ front ++ Msg.InSettle ∷ behind → (before after : List Note) (q : ℕ) → has_packet q behind ≡ true
-        → (step (node_of j.nodes k) p m).notes ≡ before ++ Note.Arrived q ∷ after → AllAnswered (commands front) w.log
+        → (node_step f (node_of j.nodes k) p m).notes ≡ before ++ Note.Arrived q ∷ after → AllAnswered (commands front) w.log
     new_answered zero p m dk dp tm label front behind whole before after q has e =
         let notes : List Note = (switch_step j.nodes.switch m).notes in
-        let same : its_notes ≡ notes = ap (λ x. (step (node_of j.nodes x) d.port s.taking.message).notes) dk
-        ∙ ap (λ x. (step (node_of j.nodes 0) x s.taking.message).notes) dp ∙ ap (λ x. (step (node_of j.nodes 0) p x).notes) tm in
+        let same : its_notes ≡ notes = ap (λ x. (node_step f (node_of j.nodes x) d.port s.taking.message).notes) dk
+        ∙ ap (λ x. (node_step f (node_of j.nodes 0) x s.taking.message).notes) dp ∙ ap (λ x. (node_step f (node_of j.nodes 0) p x).notes) tm in
         let all : AllAnswered (commands front) (w.log ++ notes) = subst (AllAnswered (commands front)) (s.log ∙ ap (λ ns. w.log ++ ns) same)
         (answered_now front behind whole before after q has (same ∙ e)) in
         each_map {P = (λ x. has_answered x.op (w.log ++ notes) ≡ true)} {Q = (λ x. has_answered x.op w.log ≡ true)}
@@ -203,7 +201,8 @@ module _ (F : Type 0) {R : Type 0} (f : Semantics R) (laws : FunctionLaws f) (al
     new_answered (suc zero) p m dk dp tm label front behind whole before after q has e =
         absurd (none_arrives before after q (controller_step j.nodes.controller p m).notes e (controller_notes_none j.nodes.controller p m))
     new_answered (suc (suc y)) p m dk dp tm label front behind whole before after q has e =
-        absurd (none_arrives before after q (step (node_of j.nodes (suc (suc y))) p m).notes e (instance_notes_none f (j.nodes.instance (suc (suc y))) m))
+        absurd (none_arrives before after q (node_step f (node_of j.nodes (suc (suc y))) p m).notes e
+        (instance_notes_none f (j.nodes.instance (suc (suc y))) m))
 
     next_keeps : Keeps v
     next_keeps = record {
@@ -237,6 +236,6 @@ module _ (F : Type 0) {R : Type 0} (f : Semantics R) (laws : FunctionLaws f) (al
       none_in [] = refl
       none_in (x ∷ cs) = let rest = none_in cs in omega (arith, rest)
 
-  pub run_settles : (cs : List Choice) → IsRun node_ready step cs at_start → Keeps (run step cs at_start)
-  run_settles = run_keeps F f laws alloc c items is (λ _ w. Keeps w) start_keeps (λ ds ok d s. next_keeps (run step ds at_start) d s
+  pub run_settles : (cs : List Choice) → IsRun node_ready (node_step f) cs at_start → Keeps (run (node_step f) cs at_start)
+  run_settles = run_keeps F f laws alloc c items is (λ _ w. Keeps w) start_keeps (λ ds ok d s. next_keeps (run (node_step f) ds at_start) d s
       (runs_joined F f laws alloc c items is ds ok).in_turn (run_busy F f laws alloc c items is ds ok).1)

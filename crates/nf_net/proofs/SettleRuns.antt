@@ -23,9 +23,6 @@ off_began x y h = rw h refl
 
 module _ (F : Type 0) {R : Type 0} (f : Semantics R) (laws : FunctionLaws f) (alloc : Global) (c : Config) (items : List Msg)
     (is : IsInput f.kind c items) where
-  abbrev g : Given
-  g = given f c items is
-
   abbrev at_start : Network (Node F R) Msg Note
   at_start = start F f laws alloc c items is
 
@@ -87,8 +84,8 @@ module _ (F : Type 0) {R : Type 0} (f : Semantics R) (laws : FunctionLaws f) (al
 
     -- So the share that has the unit had it when the packet arrived
     module _ (ms : List (List ℕ)) (shared : members c items u before ≡ Some ms) where
-      by : IsSharedBy g u (first_owner u c.routes) (installs_in before) ms
-      by = shared_by g u (first_owner u c.routes) (installs_in before) ms shared
+      by : IsSharedBy (given f c items is) u (first_owner u c.routes) (installs_in before) ms
+      by = shared_by (given f c items is) u (first_owner u c.routes) (installs_in before) ms shared
 
       there : InstalledIn before by.front by.op
       there = installed_in before by.front by.op by.back by.whole
@@ -98,7 +95,7 @@ module _ (F : Type 0) {R : Type 0} (f : Semantics R) (laws : FunctionLaws f) (al
       had_before xs here =
           ap (members_after c.names (order_numbered items) u (first_owner u c.routes))
           (ap installs_in here ∙ installed-append there.first (Note.Installed by.op ∷ xs) ∙ ap (λ v. v ++ by.op ∷ installs_in xs) there.before)
-          ∙ still_shared g u (first_owner u c.routes) by.op by.front (installs_in xs) ms by.unshared by.its
+          ∙ still_shared (given f c items is) u (first_owner u c.routes) by.op by.front (installs_in xs) ms by.unshared by.its
 
       -- for after an answer it would be installed twice
       not_behind : (xs : List Note) → there.first ≡ arrival.first ++ xs → ⊥

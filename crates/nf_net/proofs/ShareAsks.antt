@@ -2,6 +2,7 @@
 use Rattle.nf_net.proofs.Words.{◌≡◌, ℕ, ◌+◌, ◌≤◌, Bool, true, false, Option, Some, None, List, [], ◌∷◌, map, refl, ap, subst, arith, ◌==◌, ◌-◌, if◌then◌else◌}
 use Rattle.nf_net.proofs.Words.{nat_tests, Chunk, FullCell, Answer, Msg, switch_node, instance_node, SharePhase, SharePlan, ShareRow, home, others, syncs}
 use Rattle.nf_net.proofs.Words.{setting, syncing, on_fenced, on_chunks, on_shared, on_synced, service_if_idle, sent_weight, OpenAt, answered, ShareLeaves, Done}
+use Rattle.nf_net.proofs.Words.{split}
 use Rattle.std.specs.Prelude.{length}
 use Rattle.event_filter.specs.declared.mark.Mark.TheVariants.{Shared}
 use Rattle.copy_share.specs.Share.{next_phase, row, member_of}
@@ -37,17 +38,13 @@ module _ (n : ℕ) (first : Bool) (plan : SharePlan) where
       (map (λ member. (instance_node member, Msg.Sync (member == home plan) plan.op chunks)) ms) (syncs_none chunks ms)
 
   setting_asks : (ph : SharePhase) (left : ℕ) (sends : List (ℕ × Msg)) → NoneOnce n 1 first sends → Asks ph (setting left sends)
-  setting_asks ph left sends none = elim (left == 0)
-      as (λ b. Asks ph (if b then record { phase = SharePhase.Idle; sends = sends; answer = Some Done } else next_phase (SharePhase.Setting left) sends)) [
-        | true ↦ asks_none ph _ (asked_few ph) none
-        | false ↦ asks_none ph _ (asked_few ph) none
-      ]
+  setting_asks ph left sends none = split (left == 0)
+      (λ b. Asks ph (if b then record { phase = SharePhase.Idle; sends = sends; answer = Some Done } else next_phase (SharePhase.Setting left) sends))
+      (λ _. asks_none ph _ (asked_few ph) none) (λ _. asks_none ph _ (asked_few ph) none)
 
   syncing_asks : (ph : SharePhase) (left : ℕ) (sends : List (ℕ × Msg)) → NoneOnce n 1 first sends → Asks ph (syncing left sends)
-  syncing_asks ph left sends none = elim (left == 0) as (λ b. Asks ph (next_phase (if b then SharePhase.Idle else SharePhase.Syncing left) sends)) [
-    | true ↦ asks_none ph _ (asked_few ph) none
-    | false ↦ asks_none ph _ (asked_few ph) none
-  ]
+  syncing_asks ph left sends none = split (left == 0) (λ b. Asks ph (next_phase (if b then SharePhase.Idle else SharePhase.Syncing left) sends))
+      (λ _. asks_none ph _ (asked_few ph) none) (λ _. asks_none ph _ (asked_few ph) none)
 
   get_other : (b : Bool) (op : ℕ) → (plan.op == op) ≡ false → once b op (Msg.Get plan.op plan.filter) ≡ 0
   get_other true op off = refl
@@ -68,12 +65,11 @@ module _ (n : ℕ) (first : Bool) (plan : SharePlan) where
   chunks_asks ph chunks = stays ph
 
   shared_asks : (ph : SharePhase) (sender : ℕ) (chunk : Chunk) → Asks ph (on_shared plan ph sender chunk)
-  shared_asks (SharePhase.Out member) sender chunk = elim (sender == instance_node member) as (λ b. Asks (SharePhase.Out member)
-      (if b then syncing (length (others plan member)) (syncs plan member (chunk ∷ [])) else next_phase (SharePhase.Out member) [])) [
-        | true ↦ syncing_asks (SharePhase.Out member) (length (others plan member)) (syncs plan member (chunk ∷ []))
-            (syncs_none (chunk ∷ []) (others plan member))
-        | false ↦ stays (SharePhase.Out member)
-      ]
+  shared_asks (SharePhase.Out member) sender chunk = split (sender == instance_node member)
+      (λ b. Asks (SharePhase.Out member)
+      (if b then syncing (length (others plan member)) (syncs plan member (chunk ∷ [])) else next_phase (SharePhase.Out member) []))
+      (λ _. syncing_asks (SharePhase.Out member) (length (others plan member)) (syncs plan member (chunk ∷ []))
+      (syncs_none (chunk ∷ []) (others plan member))) (λ _. stays (SharePhase.Out member))
   shared_asks ph sender chunk = stays ph
 
   synced_asks : (ph : SharePhase) → Asks ph (on_synced ph)

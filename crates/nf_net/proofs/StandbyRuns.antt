@@ -1,8 +1,7 @@
 -- In every run each record that stands by is that of a front of what was processed of its unit, and the front never gets shorter.
 use Rattle.nf_net.proofs.Words.{◌≡◌, ℕ, ◌+◌, ◌≤◌, ◌⊎◌, inl, inr, List, [], ◌∷◌, ◌++◌, length, length-append, refl, sym, ap, ◌∙◌, subst, arith, Global}
-use Rattle.nf_net.proofs.Words.{FunctionLaws, Semantics, Msg, Note, Choice, Network, Stepped, IsRun, run, world_next, run_more, Config, Node, most_counted}
-use Rattle.nf_net.proofs.Words.{IsInput, course_of, job_of, node_step, node_ready, IsFront, processed_of, StandsBy, started_with, node_of, Unit, Standbys}
-use Rattle.nf_net.proofs.Words.{run_beside}
+use Rattle.nf_net.proofs.Words.{FunctionLaws, Semantics, Msg, Note, Choice, Network, IsRun, run, world_next, run_more, Config, Node, most_counted, IsInput}
+use Rattle.nf_net.proofs.Words.{course_of, job_of, node_step, node_ready, IsFront, processed_of, StandsBy, started_with, node_of, Unit, Standbys, run_beside}
 use Rattle.nf_net.proofs.CopyRuns.{run_copying}
 use Rattle.nf_net.proofs.CountedRoom.{room}
 use Rattle.nf_net.proofs.RunWords.{next_in_run, runs_joined, RunStep, run_keeps, after_world}
@@ -29,9 +28,6 @@ module _ (F : Type 0) {R : Type 0} (f : Semantics R) (laws : FunctionLaws f) (al
   abbrev start : Network (Node F R) Msg Note
   start = started_with alloc c items
 
-  abbrev step : Node F R → ℕ → Msg → Stepped (Node F R) Msg Note
-  step = node_step f
-
   abbrev Stood : Network (Node F R) Msg Note → ℕ → Unit → Type 0
   Stood = StandsBy (job_of f c items)
 
@@ -40,7 +36,7 @@ module _ (F : Type 0) {R : Type 0} (f : Semantics R) (laws : FunctionLaws f) (al
   NoShorter w i u earlier = (now : Stood w i u) × IsFront earlier now.front
 
   abbrev NeverBack : List Choice → Network (Node F R) Msg Note → Type 0
-  NeverBack cs w = (before later : List Choice) (i : ℕ) (u : Unit) (earlier : Stood (run step before start) i u) → before ++ later ≡ cs
+  NeverBack cs w = (before later : List Choice) (i : ℕ) (u : Unit) (earlier : Stood (run (node_step f) before start) i u) → before ++ later ≡ cs
       → NoShorter w i u earlier.front
 
   -- one choice further
@@ -69,24 +65,26 @@ module _ (F : Type 0) {R : Type 0} (f : Semantics R) (laws : FunctionLaws f) (al
   still w i u v same earlier = subst (λ x. NoShorter x i u earlier.front) same (itself v i u earlier)
 
   -- a choice that is taken
-  module _ (cs : List Choice) (ok : IsRun node_ready step cs start) (d : Choice) (s : RunStep F f laws alloc c items is (run step cs start) d) where
+  module _ (cs : List Choice) (ok : IsRun node_ready (node_step f) cs start) (d : Choice)
+      (s : RunStep F f laws alloc c items is (run (node_step f) cs start) d) where
     abbrev w : Network (Node F R) Msg Note
-    w = run step cs start
+    w = run (node_step f) cs start
 
     abbrev v : Network (Node F R) Msg Note
-    v = world_next step w d
+    v = world_next (node_step f) w d
 
     few : (u : Unit) → length (processed_of f c items u v.log) ≤ most_counted
     few = room F f laws alloc c items is v (next_in_run F f laws alloc c items is w d s (runs_joined F f laws alloc c items is cs ok).in_turn)
 
     next_stands : NeverBack cs w → NeverBack (cs ++ d ∷ []) v
     next_stands h before later i u earlier whole = elim (fronts_of_more before later cs d whole) as (λ _. NoShorter v i u earlier.front) [
-      | inl all ↦ still v i u (run step before start) (ap (λ xs. run step xs start) all ∙ sym (run_more step cs d start w refl)) earlier
-      | inr part ↦ behind_next w v (step (node_of s.runs.joined.nodes d.node) d.port s.taking.message).notes s.log few
+      | inl all ↦ still v i u (run (node_step f) before start)
+          (ap (λ xs. run (node_step f) xs start) all ∙ sym (run_more (node_step f) cs d start w refl)) earlier
+      | inr part ↦ behind_next w v (node_step f (node_of s.runs.joined.nodes d.node) d.port s.taking.message).notes s.log few
           (goes_on F f laws c items is w d s.taking s.runs.joined s.runs.beside few) i u earlier.front (h before part.0 i u earlier part.1)
     ]
 
-  never_back : (cs : List Choice) → IsRun node_ready step cs start → NeverBack cs (run step cs start)
+  never_back : (cs : List Choice) → IsRun node_ready (node_step f) cs start → NeverBack cs (run (node_step f) cs start)
   never_back = run_keeps F f laws alloc c items is NeverBack never next_stands
     where
       never : NeverBack [] start
@@ -94,11 +92,11 @@ module _ (F : Type 0) {R : Type 0} (f : Semantics R) (laws : FunctionLaws f) (al
       never (b ∷ before) later i u earlier e = cc
 
   -- so every run keeps what is promised of the records that stand by
-  pub standbys : (cs : List Choice) → IsRun node_ready step cs start → Standbys (job_of f c items) (course_of start cs)
+  pub standbys : (cs : List Choice) → IsRun node_ready (node_step f) cs start → Standbys (job_of f c items) (course_of start cs)
   standbys cs run_is =
       let h = never_back cs run_is in
       record {
-        fronts = λ i u kept there. (let it = stands_front f c items is (length c.names + 2) (run step cs start)
+        fronts = λ i u kept there. (let it = stands_front f c items is (length c.names + 2) (run (node_step f) cs start)
             (after_world F f laws alloc c items is cs run_is).1 (run_beside F f laws alloc c items is cs run_is).joined i u in
             record { front = it.front; kept = kept; there = there; is_front = it.is_front; folds = it.folds ∙ there });
         never_back = h;

@@ -23,11 +23,9 @@ IsOf whole p = (p.total ≡ whole.total) × (p.newest ≡ whole.newest)
 cut_of : (whole : WholePieces) (n : ℕ) (chunks : List Chunk) → Each (IsOf whole) (pieces_from whole n chunks)
 unfolding pieces_from
 cut_of whole zero chunks = ((refl, refl), tt)
-cut_of whole (suc n) chunks = elim (nat_le (length chunks) 64) as (λ b. Each (IsOf whole)
-    (if b then piece_of whole true chunks ∷ [] else piece_of whole false (take 64 chunks) ∷ pieces_from whole n (drop 64 chunks))) [
-      | true ↦ ((refl, refl), tt)
-      | false ↦ ((refl, refl), cut_of whole n (drop 64 chunks))
-    ]
+cut_of whole (suc n) chunks = split (nat_le (length chunks) 64)
+    (λ b. Each (IsOf whole) (if b then piece_of whole true chunks ∷ [] else piece_of whole false (take 64 chunks) ∷ pieces_from whole n (drop 64 chunks)))
+    (λ _. ((refl, refl), tt)) (λ _. ((refl, refl), cut_of whole n (drop 64 chunks)))
 
 pub pieces_of : (chunks : List Chunk) → Each (IsOf (whole_of chunks)) (pieces chunks)
 pieces_of chunks = cut_of (whole_of chunks) (length chunks) chunks

@@ -2,8 +2,8 @@
 -- choices that was.
 use Rattle.nf_net.proofs.Words.{◌≡◌, ℕ, ◌+◌, ◌≤◌, Bool, true, false, Option, Some, None, List, [], ◌∷◌, ◌++◌, drop, get_or, append_assoc, refl, sym, ap, ◌∙◌}
 use Rattle.nf_net.proofs.Words.{subst, arith, if◌then◌else◌, ◌==◌, find, option_map, option_map_or, option_or, nat_tests, Semantics, Msg, Note, Choice, Network}
-use Rattle.nf_net.proofs.Words.{Stepped, run, world_next, queue_at, Node, node_step, course_of, exported_for, before_export, IsTakenAfter, any_picked}
-use Rattle.nf_net.proofs.Words.{before_kept, before_new, before_one, Unit}
+use Rattle.nf_net.proofs.Words.{run, world_next, queue_at, Node, node_step, course_of, exported_for, before_export, IsTakenAfter, any_picked, before_kept}
+use Rattle.nf_net.proofs.Words.{before_new, before_one, Unit, split}
 use Rattle.std.specs.Prelude.{filter_map}
 use Rattle.std.proofs.lemmas.List.Elements.{filter_map-append}
 use Rattle.std.proofs.lemmas.List.Folds.{find-append}
@@ -31,11 +31,9 @@ module _ (op : ℕ) where
   pub none_exported : (xs : List Note) → times_given op xs ≡ 0 → exported_for op xs ≡ None
   none_exported [] h = refl
   none_exported (Note.Exported i k us ∷ xs) h =
-      elim (k == op) as (λ b. (if b then 1 else 0) + times_given op xs ≡ 0
-      → option_map (λ one. one.1) (if b then Some (k, us) else find own (filter_map export_in xs)) ≡ None) [
-        | true ↦ λ e. absurd (omega (arith, e))
-        | false ↦ λ e. none_exported xs (omega (arith, e))
-      ] h
+      split (k == op) (λ b. (if b then 1 else 0) + times_given op xs ≡ 0 → option_map (λ one. one.1)
+      (if b then Some (k, us) else find own (filter_map export_in xs)) ≡ None)
+      (λ _ e. absurd (omega (arith, e))) (λ _ e. none_exported xs (omega (arith, e))) h
   none_exported (n ∷ xs) h = none_exported xs h
 
   exported-append : (xs ys : List Note)
@@ -84,26 +82,23 @@ tail_is : (c d : Choice) (xs ys : List Choice) → c ∷ xs ≡ d ∷ ys → xs 
 tail_is c d xs ys e = ap (λ zs. drop 1 zs) e
 
 module _ {F R : Type 0} (f : Semantics R) (op : ℕ) where
-  abbrev step : Node F R → ℕ → Msg → Stepped (Node F R) Msg Note
-  step = node_step f
-
   -- how often choices take the first piece of a move
   abbrev pub times_taken : List Choice → Network (Node F R) Msg Note → ℕ
   times_taken [] w = 0
-  times_taken (c ∷ cs) w = (if is_first_piece op (queue_at w c) then 1 else 0) + times_taken cs (world_next step w c)
+  times_taken (c ∷ cs) w = (if is_first_piece op (queue_at w c) then 1 else 0) + times_taken cs (world_next (node_step f) w c)
 
   pub times_taken-append : (cs ds : List Choice) (w : Network (Node F R) Msg Note)
-      → times_taken (cs ++ ds) w ≡ times_taken cs w + times_taken ds (run step cs w)
+      → times_taken (cs ++ ds) w ≡ times_taken cs w + times_taken ds (run (node_step f) cs w)
   times_taken-append [] ds w = omega arith
-  times_taken-append (c ∷ cs) ds w = let rest = times_taken-append cs ds (world_next step w c) in omega (arith, rest)
+  times_taken-append (c ∷ cs) ds w = let rest = times_taken-append cs ds (world_next (node_step f) w c) in omega (arith, rest)
 
   abbrev IsThere : Network (Node F R) Msg Note → List Choice → Choice → Type 0
-  IsThere w front c = is_first_piece op (queue_at (run step front w) c) ≡ true
+  IsThere w front c = is_first_piece op (queue_at (run (node_step f) front w) c) ≡ true
 
   taken_counts : (w : Network (Node F R) Msg Note) (front back : List Choice) (c : Choice) → IsThere w front c → 1 ≤ times_taken (front ++ c ∷ back) w
   taken_counts w front back c h =
       let both = times_taken-append front (c ∷ back) w in
-      let here : ◌≡◌ {A = ℕ} (if is_first_piece op (queue_at (run step front w) c) then 1 else 0) 1 = rw h refl in
+      let here : ◌≡◌ {A = ℕ} (if is_first_piece op (queue_at (run (node_step f) front w) c) then 1 else 0) 1 = rw h refl in
       omega (arith, both, here)
 
   -- two in one list are two
@@ -112,9 +107,9 @@ module _ {F R : Type 0} (f : Semantics R) (op : ℕ) where
   two_taken w c d front xs ys back e first second is =
       let same = head_is c d xs (front ++ e ∷ back) is in
       let more = tail_is c d xs (front ++ e ∷ back) is in
-      let rest : 1 ≤ times_taken (front ++ e ∷ back) (world_next step w c) = taken_counts (world_next step w c) front back e
-      (subst (λ x. is_first_piece op (queue_at (run step front (world_next step w x)) e) ≡ true) (sym same) second) in
-      let rest' : 1 ≤ times_taken xs (world_next step w c) = subst (λ zs. 1 ≤ times_taken zs (world_next step w c)) (sym more) rest in
+      let rest : 1 ≤ times_taken (front ++ e ∷ back) (world_next (node_step f) w c) = taken_counts (world_next (node_step f) w c) front back e
+      (subst (λ x. is_first_piece op (queue_at (run (node_step f) front (world_next (node_step f) w x)) e) ≡ true) (sym same) second) in
+      let rest' : 1 ≤ times_taken xs (world_next (node_step f) w c) = subst (λ zs. 1 ≤ times_taken zs (world_next (node_step f) w c)) (sym more) rest in
       let here : ◌≡◌ {A = ℕ} (if is_first_piece op (queue_at w c) then 1 else 0) 1 = rw first refl in
       omega (arith, rest', here)
 
@@ -131,8 +126,8 @@ module _ {F R : Type 0} (f : Semantics R) (op : ℕ) where
   same_front w (x ∷ xs) (y ∷ ys) back after c d first second is few =
       let same = head_is x y (xs ++ c ∷ back) (ys ++ d ∷ after) is in
       let more = tail_is x y (xs ++ c ∷ back) (ys ++ d ∷ after) is in
-      let second' = subst (λ z. is_first_piece op (queue_at (run step ys (world_next step w z)) d) ≡ true) (sym same) second in
-      let rest = same_front (world_next step w x) xs ys back after c d first second' more (omega (arith, few)) in
+      let second' = subst (λ z. is_first_piece op (queue_at (run (node_step f) ys (world_next (node_step f) w z)) d) ≡ true) (sym same) second in
+      let rest = same_front (world_next (node_step f) w x) xs ys back after c d first second' more (omega (arith, few)) in
       ap (λ v. y ∷ v) rest ∙ ap (λ v. v ∷ xs) (sym same)
 
   there : (w : Network (Node F R) Msg Note) (cs front : List Choice) (t : IsTakenAfter f (course_of w cs) op front) → IsThere w front t.choice

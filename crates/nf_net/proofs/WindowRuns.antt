@@ -1,10 +1,10 @@
 -- Every run keeps the window, and a complete one has all cells at home.
 use Rattle.nf_net.proofs.Words.{◌≡◌, ℕ, zero, suc, ◌+◌, ◌≤◌, Bool, true, false, Some, List, [], ◌∷◌, length, length-append, get_or, refl, sym, ap, ◌∙◌, subst}
 use Rattle.nf_net.proofs.Words.{arith, ◌==◌, ◌&&◌, flat_map, Global, nat_tests, Decides-eqb, slice_get-get_or, FunctionLaws, Semantics, Msg, Note, SwitchState}
-use Rattle.nf_net.proofs.Words.{switch_step, Choice, Network, Stepped, IsRun, is_done, reaches, run, world_next, at, Takes, taken_outcome, opening_weight}
-use Rattle.nf_net.proofs.Words.{done_node, done_weight, EachSent, weigh, total, sent_weight, total_after, Each, Config, Node, Switch, IsInput, arrivals_in}
-use Rattle.nf_net.proofs.Words.{dones_in, node_step, node_ready, node_ended, first_nodes, first_switch, started_with, on_links, AllHome, arrived-append}
-use Rattle.nf_net.proofs.Words.{done-append, given, all_labelled, Given, Label, Joined, node_of, run_beside}
+use Rattle.nf_net.proofs.Words.{switch_step, Choice, Network, IsRun, is_done, reaches, run, world_next, at, Takes, taken_outcome, opening_weight, done_node}
+use Rattle.nf_net.proofs.Words.{done_weight, EachSent, weigh, total, sent_weight, total_after, Each, Config, Node, Switch, IsInput, arrivals_in, dones_in}
+use Rattle.nf_net.proofs.Words.{node_step, node_ready, node_ended, first_nodes, first_switch, started_with, on_links, AllHome, arrived-append, done-append}
+use Rattle.nf_net.proofs.Words.{given, all_labelled, Given, Label, Joined, node_of, run_beside}
 use Rattle.net_world.specs.Window.{Window, homeward, switch_in, switch_of}
 use Rattle.nf_net.proofs.answers.CreditCounts.{credit, no_credit_from, no_credit_to, none_sent, instance_is}
 use Rattle.nf_net.proofs.answers.ArrivalNotes.{controller_notes_none}
@@ -22,39 +22,36 @@ pub record InWindow (window : ℕ) {F R : Type 0} (w : Network (Node F R) Msg No
   pub balance : length (dones_in w.log) + switch.flying ≡ length (arrivals_in w.log) + total credit w
 
 module _ {F R : Type 0} (f : Semantics R) (g : Given) (n : ℕ) (window : ℕ) where
-  abbrev step : Node F R → ℕ → Msg → Stepped (Node F R) Msg Note
-  step = node_step f
-
-  -- the log and the credits after a step
-  balance_after : (w : Network (Node F R) Msg Note) (k p : ℕ) (node : Node F R) (m : Msg) (rest : List Msg) (takes : Takes step n w k p node m rest)
+  -- the log and the credits after a (node_step f)
+  balance_after : (w : Network (Node F R) Msg Note) (k p : ℕ) (node : Node F R) (m : Msg) (rest : List Msg) (takes : Takes (node_step f) n w k p node m rest)
       (before after : ℕ)
-      → length (dones_in w.log) + before ≡ length (arrivals_in w.log) + total credit w → after + credit m + length (dones_in (step node p m).notes)
-      ≡ before + length (arrivals_in (step node p m).notes) + sent_weight credit n k (step node p m).sends
-      → length (dones_in (world_next step w (at k p)).log) + after
-      ≡ length (arrivals_in (world_next step w (at k p)).log) + total credit (world_next step w (at k p))
+      → length (dones_in w.log) + before ≡ length (arrivals_in w.log) + total credit w → after + credit m + length (dones_in (node_step f node p m).notes)
+      ≡ before + length (arrivals_in (node_step f node p m).notes) + sent_weight credit n k (node_step f node p m).sends
+      → length (dones_in (world_next (node_step f) w (at k p)).log) + after
+      ≡ length (arrivals_in (world_next (node_step f) w (at k p)).log) + total credit (world_next (node_step f) w (at k p))
   balance_after w k p node m rest takes before after balance changes =
-      let left = taken_outcome step n w k p node m rest takes in
-      let notes = (step node p m).notes in
-      let weight = total_after step n w k p node m rest takes credit in
-      let went : length (dones_in (world_next step w (at k p)).log) ≡ length (dones_in w.log) + length (dones_in notes) =
+      let left = taken_outcome (node_step f) n w k p node m rest takes in
+      let notes = (node_step f node p m).notes in
+      let weight = total_after (node_step f) n w k p node m rest takes credit in
+      let went : length (dones_in (world_next (node_step f) w (at k p)).log) ≡ length (dones_in w.log) + length (dones_in notes) =
       ap (λ v. length (dones_in v)) left.log ∙ ap length (done-append w.log notes) ∙ length-append (dones_in w.log) (dones_in notes) in
-      let came : length (arrivals_in (world_next step w (at k p)).log) ≡ length (arrivals_in w.log) + length (arrivals_in notes) =
+      let came : length (arrivals_in (world_next (node_step f) w (at k p)).log) ≡ length (arrivals_in w.log) + length (arrivals_in notes) =
       ap (λ v. length (arrivals_in v)) left.log ∙ ap length (arrived-append w.log notes) ∙ length-append (arrivals_in w.log) (arrivals_in notes) in
       omega (arith, balance, changes, weight, went, came)
 
   window_after : (w : Network (Node F R) Msg Note) (k p : ℕ) (m : Msg) (rest : List Msg) (j : Joined f g n w)
-      (takes : Takes step n w k p (node_of j.nodes k) m rest)
-      → Label f g p k m → EachSent (Label f g) k (step (node_of j.nodes k) p m).sends → length (dones_in w.log) ≤ length (arrivals_in w.log)
-      → InWindow window w → InWindow window (world_next step w (at k p))
+      (takes : Takes (node_step f) n w k p (node_of j.nodes k) m rest)
+      → Label f g p k m → EachSent (Label f g) k (node_step f (node_of j.nodes k) p m).sends → length (dones_in w.log) ≤ length (arrivals_in w.log)
+      → InWindow window w → InWindow window (world_next (node_step f) w (at k p))
   window_after w zero p m rest j takes labelled labels few h =
       let s = j.nodes.switch in
-      let left = taken_outcome step n w 0 p (Switch s) m rest takes in
+      let left = taken_outcome (node_step f) n w 0 p (Switch s) m rest takes in
       let sent : sent_weight credit n 0 (switch_step s m).sends ≡ 0 = none_sent f g n 0 (switch_step s m).sends (omega arith) labels in
       let is : Switch h.switch ≡ Switch s = sym (h.there (Switch h.switch)) ∙ j.nodes_are 0 takes.some (Switch h.switch) in
       let same : h.switch ≡ s = cc in
       let balance : length (dones_in w.log) + s.flying ≡ length (arrivals_in w.log) + total credit w =
       ap (λ x. length (dones_in w.log) + x.flying) (sym same) ∙ h.balance in
-      let weight = total_after step n w 0 p (Switch s) m rest takes credit in
+      let weight = total_after (node_step f) n w 0 p (Switch s) m rest takes credit in
       let did = switch_counts window s (ap (λ x. x.pool.cells) (sym same) ∙ h.cells) (ap (λ x. x.flying + x.pool.home) (sym same) ∙ h.home) m (λ cell e.
       let comes : Label f g p 0 (Msg.Credit cell) = subst (λ a. Label f g p 0 a) e labelled in
       let one : credit m ≡ 1 = ap credit e in
@@ -69,9 +66,9 @@ module _ {F R : Type 0} (f : Semantics R) (g : Given) (n : ℕ) (window : ℕ) w
         balance = balance_after w 0 p (Switch s) m rest takes s.flying (switch_step s m).node.flying balance (omega (arith, flying, went, sent));
       }
   window_after w (suc zero) p m rest j takes labelled labels few h =
-      let left = taken_outcome step n w 1 p (node_of j.nodes 1) m rest takes in
+      let left = taken_outcome (node_step f) n w 1 p (node_of j.nodes 1) m rest takes in
       let none = no_credit_to f g p 1 m (omega arith) labelled in
-      let sent = none_sent f g n 1 (step (node_of j.nodes 1) p m).sends (omega arith) labels in
+      let sent = none_sent f g n 1 (node_step f (node_of j.nodes 1) p m).sends (omega arith) labels in
       let came = ap length (controller_notes_none j.nodes.controller p m) in
       let went = ap length (controller_none j.nodes.controller p m) in
       record {
@@ -84,7 +81,7 @@ module _ {F R : Type 0} (f : Semantics R) (g : Given) (n : ℕ) (window : ℕ) w
   window_after w (suc (suc i)) p m rest j takes labelled labels few h =
       let k : ℕ = suc (suc i) in
       let instance = j.nodes.instance k in
-      let left = taken_outcome step n w k p (node_of j.nodes k) m rest takes in
+      let left = taken_outcome (node_step f) n w k p (node_of j.nodes k) m rest takes in
       let none = no_credit_to f g p k m (omega arith) labelled in
       let some = takes.some in
       let reach : reaches n k 0 ≡ true = grind (arith, nat_tests, some) in

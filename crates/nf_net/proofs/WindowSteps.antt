@@ -58,11 +58,9 @@ module _ (window : ℕ) (s : SwitchState) (cells : s.pool.cells ≡ window) (hom
       let t : SwitchState = record s { rules = rules_redirected (record { filter = filter; from = Target.Instance from; to = to }) s.rules } in
       let sends : List (ℕ × Msg) = (instance_node from, Msg.Fence op) ∷ [] in
       let notes : List Note = Note.Installed op ∷ [] in
-      elim (nat_lt from s.instances && is_there s to)
-      as (λ b. Counts window s (Msg.Install op filter from to) (if b then record { node = t; sends = sends; notes = notes } else still s)) [
-        | true ↦ stays (Msg.Install op filter from to) refl t refl refl sends notes refl refl
-        | false ↦ still_is (Msg.Install op filter from to) refl
-      ]
+      split (nat_lt from s.instances && is_there s to)
+      (λ b. Counts window s (Msg.Install op filter from to) (if b then record { node = t; sends = sends; notes = notes } else still s))
+      (λ _. stays (Msg.Install op filter from to) refl t refl refl sends notes refl refl) (λ _. still_is (Msg.Install op filter from to) refl)
 
   credit_is : (cell : FullCell) → cell.pool ≡ s.pool.name → 1 ≤ s.flying → Counts window s (Msg.Credit cell) (switch.on_credit s cell)
   credit_is cell pool some =

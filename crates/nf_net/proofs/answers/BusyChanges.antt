@@ -112,10 +112,8 @@ module _ (g : Given) (ops : OpenOperations) (log : List Note) (waits : List ℕ)
           (λ on e. at_own (λ j. IsPlanned g j x) k on (subst (IsPlanned g op) (same_operation n x e) planned)) (λ off e. h.plan k x e) (sym (is k) ∙ there_too)
 
       outcome_after : HasAnswer n → (k : ℕ) (x : Operation) → finite.get after k ≡ Some x → HasAnswer x
-      outcome_after outcome k x there_too = elim (k == op) as (λ b. cond b (Some n) (finite.get ops k) ≡ Some x → HasAnswer x) [
-        | true ↦ λ e. subst HasAnswer (same_operation n x e) outcome
-        | false ↦ λ e. h.outcome k x e
-      ] (sym (is k) ∙ there_too)
+      outcome_after outcome k x there_too = split (k == op) (λ b. cond b (Some n) (finite.get ops k) ≡ Some x → HasAnswer x)
+          (λ _ e. subst HasAnswer (same_operation n x e) outcome) (λ _ e. h.outcome k x e) (sym (is k) ∙ there_too)
 
       told_after : (notes : List Note) → answers_of op (log ++ notes) ≡ answers_to n → ((k : ℕ) → (k == op) ≡ false → has_answered k notes ≡ false)
           → (k : ℕ) (x : Operation) → finite.get after k ≡ Some x → answers_of k (log ++ notes) ≡ answers_to x
@@ -169,14 +167,10 @@ module _ (g : Given) (ops : OpenOperations) (log : List Note) (waits : List ℕ)
           (λ b. is_some (cond b None (finite.get ops k)) ≡ keeps_off g.names g.orders k (log ++ Note.Answered op a ∷ []))
           (λ on. at_own (λ j. false ≡ keeps_off g.names g.orders j (log ++ Note.Answered op a ∷ [])) k on (sym (ended g op log a ends)))
           (λ off. h.busy k ∙ sym (keeps_same g.names g.orders k log (Note.Answered op a ∷ []) refl (apart_noted op k a off)));
-      plan = λ k x is. elim (k == op) as (λ b. cond b None (finite.get ops k) ≡ Some x → IsPlanned g k x) [
-        | true ↦ λ e. cc
-        | false ↦ λ e. h.plan k x e
-      ] (sym (got_remove ops op k) ∙ is);
-      outcome = λ k x is. elim (k == op) as (λ b. cond b None (finite.get ops k) ≡ Some x → HasAnswer x) [
-        | true ↦ λ e. cc
-        | false ↦ λ e. h.outcome k x e
-      ] (sym (got_remove ops op k) ∙ is);
+      plan = λ k x is. split (k == op) (λ b. cond b None (finite.get ops k) ≡ Some x → IsPlanned g k x) (λ _ e. cc) (λ _ e. h.plan k x e)
+          (sym (got_remove ops op k) ∙ is);
+      outcome = λ k x is. split (k == op) (λ b. cond b None (finite.get ops k) ≡ Some x → HasAnswer x) (λ _ e. cc) (λ _ e. h.outcome k x e)
+          (sym (got_remove ops op k) ∙ is);
       told = λ k x is.
           split (k == op) (λ b. cond b None (finite.get ops k) ≡ Some x → answers_of k (log ++ Note.Answered op a ∷ []) ≡ answers_to x) (λ on e. cc)
           (λ off e. answers_same k log (Note.Answered op a ∷ []) (apart_noted op k a off) ∙ h.told k x e) (sym (got_remove ops op k) ∙ is);
@@ -257,10 +251,8 @@ module _ (g : Given) (ops : OpenOperations) (log : List Note) (op : ℕ) (waits 
     plan = λ k x is. split (k == op) (λ b. cond b (Some n) (finite.get ops k) ≡ Some x → IsPlanned g k x)
         (λ on e. on_own (λ j. IsPlanned g j x) k on (subst (IsPlanned g op) (same_operation n x e) plan)) (λ off e. h.plan k x e)
         (sym (got_insert ops op k n) ∙ is);
-    outcome = λ k x is. elim (k == op) as (λ b. cond b (Some n) (finite.get ops k) ≡ Some x → HasAnswer x) [
-      | true ↦ λ e. subst HasAnswer (same_operation n x e) outcome
-      | false ↦ λ e. h.outcome k x e
-    ] (sym (got_insert ops op k n) ∙ is);
+    outcome = λ k x is. split (k == op) (λ b. cond b (Some n) (finite.get ops k) ≡ Some x → HasAnswer x)
+        (λ _ e. subst HasAnswer (same_operation n x e) outcome) (λ _ e. h.outcome k x e) (sym (got_insert ops op k n) ∙ is);
     told = λ k x is.
         split (k == op) (λ b. cond b (Some n) (finite.get ops k) ≡ Some x → answers_of k (log ++ Note.Begun op ∷ []) ≡ answers_to x)
         (λ on e. on_own (λ j. answers_of j (log ++ Note.Begun op ∷ []) ≡ answers_to x) k on

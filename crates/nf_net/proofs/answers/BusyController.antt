@@ -4,7 +4,7 @@ use Rattle.nf_net.proofs.Words.{FullCell, Answer, Order, Msg, Note, switch_node,
 use Rattle.nf_net.proofs.Words.{row_in, answer_of, move_at_start, Operation, Move, Copy, Share, turn_of, turn_of_move, ControllerState, on_asked, on_diverted}
 use Rattle.nf_net.proofs.Words.{queue_step, after_turn, takes_turn, hand_step, on_final, instance_at, step_and_finish, controller_step, place_of, stored_of}
 use Rattle.nf_net.proofs.Words.{EachSent, CopyTurn, Idle, Hands, Hands_all, Ends, hands, copy_turn, got_insert, remove_insert, NotShared, Given, Label}
-use Rattle.nf_net.proofs.Words.{answered, noted, is_share, sent-append, Done}
+use Rattle.nf_net.proofs.Words.{answered, noted, is_share, sent-append, Done, split}
 use Rattle.std.specs.FinMap as finite
 use Rattle.copy_share.specs.Copy as copy
 use Rattle.copy_share.specs.Share as share
@@ -205,18 +205,12 @@ module _ (g : Given) (log : List Note) (waits : List ℕ) where
 
 module _ {R : Type 0} (f : Semantics R) (g : Given) (log : List Note) (waits : List ℕ) (c : ControllerState) (names : c.names ≡ g.names) where
   row_busy : (p : ℕ) (m : Msg) → Label f g p 1 m → Says g p 1 m → IsBusy g c.operations log (told_in m ++ waits) → StepIs g log waits (controller_row c p m)
-  row_busy p (Msg.Asked k) label says h = elim (p == switch_node) as (λ b. StepIs g log waits (if b then on_asked c k else still c)) [
-    | true ↦ asked_is g log waits c k.op k.what names h label.2.known
-    | false ↦ dropped_is g log waits c k.op k.what names h label.2.known
-  ]
-  row_busy p (Msg.Diverted cell) label says h = elim (p == switch_node) as (λ b. StepIs g log waits (if b then on_diverted c cell else still c)) [
-    | true ↦ diverted_is g log waits c h cell
-    | false ↦ still_is g log waits c h
-  ]
-  row_busy p Msg.End label says h = elim (p == switch_node) as (λ b. StepIs g log waits (if b then still (record c { end_came = true }) else still c)) [
-    | true ↦ record { busy = other_notes g c.operations log waits h [] tt; says = tt }
-    | false ↦ still_is g log waits c h
-  ]
+  row_busy p (Msg.Asked k) label says h = split (p == switch_node) (λ b. StepIs g log waits (if b then on_asked c k else still c))
+      (λ _. asked_is g log waits c k.op k.what names h label.2.known) (λ _. dropped_is g log waits c k.op k.what names h label.2.known)
+  row_busy p (Msg.Diverted cell) label says h = split (p == switch_node) (λ b. StepIs g log waits (if b then on_diverted c cell else still c))
+      (λ _. diverted_is g log waits c h cell) (λ _. still_is g log waits c h)
+  row_busy p Msg.End label says h = split (p == switch_node) (λ b. StepIs g log waits (if b then still (record c { end_came = true }) else still c))
+      (λ _. record { busy = other_notes g c.operations log waits h [] tt; says = tt }) (λ _. still_is g log waits c h)
   row_busy p (Msg.Event op cell) label says h = event_is g log waits c h p op cell (instance_at c p)
   row_busy p Msg.Final label says h = final_is g log waits c h (instance_at c p)
   row_busy p (Msg.InCommand k) label says h = let never = label.0.1 in cc

@@ -4,6 +4,7 @@ use Rattle.nf_net.proofs.Words.{if◌then◌else◌, ◌&&◌, ◌||◌, ◌==�
 use Rattle.nf_net.proofs.Words.{Import, Command, Msg, Note, switch_node, instance_node, Stepped, core_sent, EachSent, Each, each-append, SwitchState}
 use Rattle.nf_net.proofs.Words.{switch_step, stop_messages, InstanceState, pieces, to_controller, share_message, tell_step, tells_and_notes, instance_step}
 use Rattle.nf_net.proofs.Words.{selected_chunks, chunk_told, with_count, table_after, step_fits, refusal_of, instance_fits, Given, Label, sent-append, Unit}
+use Rattle.nf_net.proofs.Words.{split}
 use Rattle.std.specs.FinMap as finite
 use Rattle.nf_msgs.specs.declared.answer.Answer.TheVariants.{Old}
 use Rattle.nf_msgs.specs.declared.msg.Piece.{Piece as APiece}
@@ -24,10 +25,8 @@ NoneTold sends = Each (λ x. told_in x.1 ≡ []) sends
 
 pub none_told : (r : ℕ) (sends : List (ℕ × Msg)) → NoneTold sends → numbers (core_sent r sends) ≡ []
 none_told r [] h = refl
-none_told r (x ∷ xs) h = elim (x.0 == r) as (λ b. numbers ((if b then x.1 ∷ [] else []) ++ core_sent r xs) ≡ []) [
-  | true ↦ ap (λ v. v ++ numbers (core_sent r xs)) h.0 ∙ none_told r xs h.1
-  | false ↦ none_told r xs h.1
-]
+none_told r (x ∷ xs) h = split (x.0 == r) (λ b. numbers ((if b then x.1 ∷ [] else []) ++ core_sent r xs) ≡ [])
+    (λ _. ap (λ v. v ++ numbers (core_sent r xs)) h.0 ∙ none_told r xs h.1) (λ _. none_told r xs h.1)
 
 -- The switch.
 module _ (g : Given) where
@@ -120,11 +119,11 @@ module _ {F R : Type 0} (f : Semantics R) (g : Given) (k : ℕ) where
   -- a refusal is an outcome
   refusal_says : (i : InstanceState F R) (piece : APiece) (first : Bool) → IsOutcome (refusal_of i piece first)
   refusal_says i piece false = tt
-  refusal_says i piece true = elim (nat_lt i.limit (finite.len i.table.live + piece.total)) as (λ b. IsOutcome (if b
-      then Some (Import (finite.len i.table.live) piece.total i.limit) else if i.marked && nat_lt 1 piece.newest then Some (Old piece.newest 1) else None)) [
-        | true ↦ refl
-        | false ↦ elim (i.marked && nat_lt 1 piece.newest) as (λ b. IsOutcome (if b then Some (Old piece.newest 1) else None)) [ true ↦ refl | false ↦ tt ]
-      ]
+  refusal_says i piece true = split (nat_lt i.limit (finite.len i.table.live + piece.total))
+      (λ b. IsOutcome (if b then Some (Import (finite.len i.table.live) piece.total i.limit) else if i.marked && nat_lt 1 piece.newest then Some
+      (Old piece.newest 1) else None))
+      (λ _. refl)
+      (λ _. elim (i.marked && nat_lt 1 piece.newest) as (λ b. IsOutcome (if b then Some (Old piece.newest 1) else None)) [ true ↦ refl | false ↦ tt ])
 
   one_says : (i : InstanceState F R) (m : Msg) → Says g k 1 m → InstanceSays (tell_step i m)
   one_says i m h = record { notes_are = tt; says = (h, tt) }

@@ -62,9 +62,6 @@ module _ {R : Type 0} (f : Semantics R) (g : Given) where
   told_at_controller p m label = sym (neither (0 == p))
 
 module _ {F R : Type 0} (f : Semantics R) (g : Given) (n : ℕ) (count_is : n ≡ count f g + 2) where
-  abbrev step : Node F R → ℕ → Msg → Stepped (Node F R) Msg Note
-  step = node_step f
-
   module _ (w : Network (Node F R) Msg Note) (j : Joined f g n w) (b : Busy g w) where
     one : 1 < n
     one = omega (arith, count_is)
@@ -75,10 +72,7 @@ module _ {F R : Type 0} (f : Semantics R) (g : Given) (n : ℕ) (count_is : n �
     is_busy_one : IsBusy g j.nodes.controller.operations w.log (waits_of w)
     is_busy_one = subst (λ c. IsBusy g c.operations w.log (waits_of w)) same_one b.is
 
-    module _ (k p : ℕ) (m : Msg) (rest : List Msg) (takes : Takes step n w k p (node_of j.nodes k) m rest) where
-      abbrev did : Stepped (Node F R) Msg Note
-      did = step (node_of j.nodes k) p m
-
+    module _ (k p : ℕ) (m : Msg) (rest : List Msg) (takes : Takes (node_step f) n w k p (node_of j.nodes k) m rest) where
       label : Label f g p k m
       label = (subst (λ ms. Each (Label f g p k) ms) takes.waits
           (j.labels p k (let c = takes.count in rw c takes.sender) (let c = takes.count in rw c takes.receiver))).0
@@ -88,13 +82,13 @@ module _ {F R : Type 0} (f : Semantics R) (g : Given) (n : ℕ) (count_is : n �
           (b.says p k (let c = takes.count in rw c takes.sender) (let c = takes.count in rw c takes.receiver))).0
 
       abbrev v : Network (Node F R) Msg Note
-      v = world_next step w (at k p)
+      v = world_next (node_step f) w (at k p)
 
-      left : Outcome step n w k p (node_of j.nodes k) m rest v
-      left = taken_outcome step n w k p (node_of j.nodes k) m rest takes
+      left : Outcome (node_step f) n w k p (node_of j.nodes k) m rest v
+      left = taken_outcome (node_step f) n w k p (node_of j.nodes k) m rest takes
 
-      says_after : EachSent (Says g) k did.sends → OnLinks (Says g) v
-      says_after sent = on_links_after (Says g) step n w k p (node_of j.nodes k) m rest takes b.says sent
+      says_after : EachSent (Says g) k ((node_step f) (node_of j.nodes k) p m).sends → OnLinks (Says g) v
+      says_after sent = on_links_after (Says g) (node_step f) n w k p (node_of j.nodes k) m rest takes b.says sent
 
       -- where another node took the message
       kept_controller : 1 ≢ k → (d : Node F R) → get_or v.nodes 1 d ≡ Controller b.controller
@@ -102,12 +96,12 @@ module _ {F R : Type 0} (f : Semantics R) (g : Given) (n : ℕ) (count_is : n �
 
     module _ (p : ℕ) (m : Msg) (rest : List Msg) where
       -- the switch took it
-      at_switch : Takes step n w 0 p (node_of j.nodes 0) m rest → Busy g (world_next step w (at 0 p))
+      at_switch : Takes (node_step f) n w 0 p (node_of j.nodes 0) m rest → Busy g (world_next (node_step f) w (at 0 p))
       at_switch takes =
           let it = switch_hands f g j.nodes.switch p m (label 0 p m rest takes) in
           let notes = (switch_step j.nodes.switch m).notes in
-          let after = world_next step w (at 0 p) in
-          let same : waits_of w ≡ waits_of after = way_at_switch told_in step n one w p (node_of j.nodes 0) m rest takes it.hands
+          let after = world_next (node_step f) w (at 0 p) in
+          let same : waits_of w ≡ waits_of after = way_at_switch told_in (node_step f) n one w p (node_of j.nodes 0) m rest takes it.hands
           (told_at_switch f g p m (label 0 p m rest takes)) in
           record {
             controller = b.controller;
@@ -118,11 +112,11 @@ module _ {F R : Type 0} (f : Semantics R) (g : Given) (n : ℕ) (count_is : n �
           }
 
       -- the controller took it
-      at_controller : Takes step n w 1 p (node_of j.nodes 1) m rest → Busy g (world_next step w (at 1 p))
+      at_controller : Takes (node_step f) n w 1 p (node_of j.nodes 1) m rest → Busy g (world_next (node_step f) w (at 1 p))
       at_controller takes =
-          let after = world_next step w (at 1 p) in
+          let after = world_next (node_step f) w (at 1 p) in
           let c = j.nodes.controller in
-          let same : waits_of w ≡ told_in m ++ waits_of after = way_at_controller told_in step n one w p (node_of j.nodes 1) m rest takes
+          let same : waits_of w ≡ told_in m ++ waits_of after = way_at_controller told_in (node_step f) n one w p (node_of j.nodes 1) m rest takes
           (told_at_controller f g p m (label 1 p m rest takes)) in
           let it = controller_busy f g w.log (waits_of after) c j.shown_is.controller.names p m (label 1 p m rest takes) (says 1 p m rest takes)
           (subst (λ xs. IsBusy g c.operations w.log xs) same is_busy_one) in
@@ -134,13 +128,14 @@ module _ {F R : Type 0} (f : Semantics R) (g : Given) (n : ℕ) (count_is : n �
           }
 
       -- an instance took it
-      at_instance : (i : ℕ) → Takes step n w (suc (suc i)) p (node_of j.nodes (suc (suc i))) m rest → Busy g (world_next step w (at (suc (suc i)) p))
+      at_instance : (i : ℕ) → Takes (node_step f) n w (suc (suc i)) p (node_of j.nodes (suc (suc i))) m rest → Busy g
+          (world_next (node_step f) w (at (suc (suc i)) p))
       at_instance i takes =
           let k = suc (suc i) in
-          let after = world_next step w (at k p) in
+          let after = world_next (node_step f) w (at k p) in
           let it = instance_says f g k (j.nodes.instance k) m in
           let other : 1 ≢ k = (λ is. let never = is in absurd (omega (arith, never))) in
-          let same : waits_of w ≡ waits_of after = way_at_instance told_in step n one w p (node_of j.nodes k) m rest i takes in
+          let same : waits_of w ≡ waits_of after = way_at_instance told_in (node_step f) n one w p (node_of j.nodes k) m rest i takes in
           record {
             controller = b.controller;
             controller_is = kept_controller k p m rest takes other;
@@ -150,16 +145,17 @@ module _ {F R : Type 0} (f : Semantics R) (g : Given) (n : ℕ) (count_is : n �
             says = says_after k p m rest takes it.says;
           }
 
-      busy_after : (k : ℕ) → Takes step n w k p (node_of j.nodes k) m rest → Busy g (world_next step w (at k p))
+      busy_after : (k : ℕ) → Takes (node_step f) n w k p (node_of j.nodes k) m rest → Busy g (world_next (node_step f) w (at k p))
       busy_after zero takes = at_switch takes
       busy_after (suc zero) takes = at_controller takes
       busy_after (suc (suc i)) takes = at_instance i takes
 
   -- a choice of a run
-  pub busy_next : (w : Network (Node F R) Msg Note) (c : Choice) → Taking node_ready step n w c → Joined f g n w → Busy g w → Busy g (world_next step w c)
+  pub busy_next : (w : Network (Node F R) Msg Note) (c : Choice) → Taking node_ready (node_step f) n w c → Joined f g n w → Busy g w → Busy g
+      (world_next (node_step f) w c)
   busy_next w c t j b =
       let is : t.node ≡ node_of j.nodes c.node = sym (t.takes.node_is t.node) ∙ j.nodes_are c.node t.takes.receiver t.node in
-      busy_after w j b c.port t.message t.rest c.node (subst (λ y. Takes step n w c.node c.port y t.message t.rest) is t.takes)
+      busy_after w j b c.port t.message t.rest c.node (subst (λ y. Takes (node_step f) n w c.node c.port y t.message t.rest) is t.takes)
 
   -- Of a world of a run, what others need.
 

@@ -162,10 +162,9 @@ module _ (g : Given) (n : ℕ) (reach : reaches n 1 0 ≡ true) (c : ControllerS
               let one : sent_weight answering n 1 ((0, Msg.Answered op) ∷ []) ≡ 1 = rw reach refl in omega (arith, both, none, one))
               plan.order_is
               (λ other. subst IsEarly (sym is) (before (over_is r.next.phase a e ∙ not_done a other)));
-          early = λ k y there zero. elim (k == op) as (λ b. cond b None (finite.get c.operations k) ≡ Some (Move y) → Was k y (Note.Answered op a ∷ [])) [
-            | true ↦ λ own. cc
-            | false ↦ λ other. Was_open y other zero refl
-          ] (sym (got_remove (finite.insert c.operations op (Move x)) op k ∙ ap (λ o. cond (k == op) None o) (got_insert c.operations op k (Move x))
+          early = λ k y there zero. split (k == op) (λ b. cond b None (finite.get c.operations k) ≡ Some (Move y) → Was k y (Note.Answered op a ∷ []))
+              (λ _ own. cc) (λ _ other. Was_open y other zero refl)
+              (sym (got_remove (finite.insert c.operations op (Move x)) op k ∙ ap (λ o. cond (k == op) None o) (got_insert c.operations op k (Move x))
               ∙ gone_twice (k == op) (Some (Move x)) (finite.get c.operations k)) ∙ there);
         }
 

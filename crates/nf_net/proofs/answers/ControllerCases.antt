@@ -3,7 +3,7 @@
 use Rattle.nf_net.proofs.Words.{◌≡◌, ℕ, Bool, true, false, Option, Some, None, List, [], ◌∷◌, ◌++◌, refl, sym, subst, if◌then◌else◌, is_some, slice_set}
 use Rattle.nf_net.proofs.Words.{filter_map, Filter, place_of, Answer, Order, Operation, may_finish, step_and_finish, refusal, move_between, copy_between}
 use Rattle.nf_net.proofs.Words.{share_begin, begin_step, decision_step, on_asked, FullCell, Msg, switch_node, ShareState, Share, turn_of, ControllerState}
-use Rattle.nf_net.proofs.Words.{on_diverted, queue_step, takes_turn, hand_step, on_final, NotShared, handed_is, shared_or_not}
+use Rattle.nf_net.proofs.Words.{on_diverted, queue_step, takes_turn, hand_step, on_final, NotShared, handed_is, shared_or_not, split}
 use Rattle.ctrl_node.specs.Controller.{answers, Step, still, on_event}
 use Rattle.std.specs.FinMap as finite
 use Rattle.event_filter.specs.declared.mark.Mark.TheVariants.{Pass}
@@ -36,11 +36,10 @@ module _ (P : Step → Type 0) (c : ControllerState) where
   pub by_sender : (port op : ℕ) (cell : FullCell) (i : Option ℕ) → P (still c) → P (hand_step c op port (Msg.Event op cell))
       → ((k : ℕ) → P (record { node = c; sends = (switch_node, Msg.Forward k (Pass op) cell) ∷ []; notes = [] })) → P (on_event c port op cell i)
   by_sender port op cell None none open_it back = none
-  by_sender port op cell (Some k) none open_it back = elim (finite.contains_key c.operations op) as (λ b.
-      P (if b then hand_step c op port (Msg.Event op cell) else record { node = c; sends = (switch_node, Msg.Forward k (Pass op) cell) ∷ []; notes = [] })) [
-        | true ↦ open_it
-        | false ↦ back k
-      ]
+  by_sender port op cell (Some k) none open_it back = split (finite.contains_key c.operations op)
+      (λ b. P (if b then hand_step c op port
+      (Msg.Event op cell) else record { node = c; sends = (switch_node, Msg.Forward k (Pass op) cell) ∷ []; notes = [] }))
+      (λ _. open_it) (λ _. back k)
 
   pub by_stop : (i : Option ℕ) → P (still c) → ((k : ℕ) → P (still (record c { stopped = slice_set c.stopped k true }))) → P (on_final c i)
   by_stop None none stopped = none

@@ -1,11 +1,11 @@
 -- Where nothing is left to be done, no operation is open but shares that are set up, if no command stands after the input's end.
 use Rattle.nf_net.proofs.Words.{◌≡◌, ◌≢◌, ℕ, zero, suc, ◌+◌, ◌<◌, Bool, true, false, None, List, [], ◌∷◌, ◌++◌, length, get_or, refl, sym, ap, ◌∙◌, subst}
 use Rattle.nf_net.proofs.Words.{arith, if◌then◌else◌, ◌&&◌, ◌==◌, not, Global, nat_tests, Decides-eqb, and_parts, FunctionLaws, Semantics, Msg, Note, Choice}
-use Rattle.nf_net.proofs.Words.{Network, Stepped, IsRun, is_done, reaches, run, world_next, queue_at, done_node, done_weight, at, opening_waiting}
-use Rattle.nf_net.proofs.Words.{opening_weight, Takes, taken_outcome, EachSent, total, sent_weight, total_after, Each, are_quiet, ControllerState, may_finish}
-use Rattle.nf_net.proofs.Words.{controller_step, opened_controller, SwitchState, switch_step, Config, Node, Switch, Controller, IsInput, is_item, commands}
-use Rattle.nf_net.proofs.Words.{ends_last, node_step, node_ready, node_ended, first_nodes, first_switch, Given, Label, Joined, node_of, known, given}
-use Rattle.nf_net.proofs.Words.{all_labelled, count_at_start, all_each}
+use Rattle.nf_net.proofs.Words.{Network, IsRun, is_done, reaches, run, world_next, queue_at, done_node, done_weight, at, opening_waiting, opening_weight, Takes}
+use Rattle.nf_net.proofs.Words.{taken_outcome, EachSent, total, sent_weight, total_after, Each, are_quiet, ControllerState, may_finish, controller_step}
+use Rattle.nf_net.proofs.Words.{opened_controller, SwitchState, switch_step, Config, Node, Switch, Controller, IsInput, is_item, commands, ends_last, node_step}
+use Rattle.nf_net.proofs.Words.{node_ready, node_ended, first_nodes, first_switch, Given, Label, Joined, node_of, known, given, all_labelled, count_at_start}
+use Rattle.nf_net.proofs.Words.{all_each}
 use Rattle.std.specs.FinMap as finite
 use Rattle.ctrl_node.specs.Controller as controller
 use Rattle.nf_net.proofs.RunWords.{own_controller, sent_weight-append, run_keeps, start}
@@ -72,23 +72,20 @@ pub record Ends {F R : Type 0} (w : Network (Node F R) Msg Note) : Type 0 where
   pub is : IsEnding (flag switch.closed) controller (on_way sign_in w) (total finish w)
 
 module _ {F R : Type 0} (f : Semantics R) (g : Given) (n : ℕ) (count_is : n ≡ count f g + 2) where
-  abbrev step : Node F R → ℕ → Msg → Stepped (Node F R) Msg Note
-  step = node_step f
-
   ends_after : (w : Network (Node F R) Msg Note) (k p : ℕ) (m : Msg) (rest : List Msg) (j : Joined f g n w)
-      (takes : Takes step n w k p (node_of j.nodes k) m rest)
-      → Label f g p k m → EachSent (Label f g) k (step (node_of j.nodes k) p m).sends → Ends w → Ends (world_next step w (at k p))
+      (takes : Takes (node_step f) n w k p (node_of j.nodes k) m rest)
+      → Label f g p k m → EachSent (Label f g) k (node_step f (node_of j.nodes k) p m).sends → Ends w → Ends (world_next (node_step f) w (at k p))
   ends_after w zero p m rest j takes labelled labels h =
       let s = j.nodes.switch in
-      let left = taken_outcome step n w 0 p (node_of j.nodes 0) m rest takes in
+      let left = taken_outcome (node_step f) n w 0 p (node_of j.nodes 0) m rest takes in
       let is : Switch h.switch ≡ Switch s = sym (h.switch_is (Switch h.switch)) ∙ j.nodes_are 0 takes.some (Switch h.switch) in
       let same : h.switch ≡ s = cc in
       let did = switch_closes s f g p m labelled in
       let closed = did.closed in
       let was = ap (λ x. flag x.closed) same in
       let sent = none_sent f g None n 0 (switch_step s m).sends (λ never. cc) labels in
-      let weight = total_after step n w 0 p (node_of j.nodes 0) m rest takes finish in
-      let way = at_switch sign_in step n (omega (arith, count_is)) w p (node_of j.nodes 0) m rest takes did.hands (sign_at_switch f g p m labelled) in
+      let weight = total_after (node_step f) n w 0 p (node_of j.nodes 0) m rest takes finish in
+      let way = at_switch sign_in (node_step f) n (omega (arith, count_is)) w p (node_of j.nodes 0) m rest takes did.hands (sign_at_switch f g p m labelled) in
       record {
         switch = (switch_step s m).node;
         switch_is = left.own;
@@ -103,30 +100,30 @@ module _ {F R : Type 0} (f : Semantics R) (g : Given) (n : ℕ) (count_is : n �
       }
   ends_after w (suc zero) p m rest j takes labelled labels h =
       let c = j.nodes.controller in
-      let left = taken_outcome step n w 1 p (node_of j.nodes 1) m rest takes in
+      let left = taken_outcome (node_step f) n w 1 p (node_of j.nodes 1) m rest takes in
       let same : h.controller ≡ c = own_controller j takes.receiver h.controller h.controller_is in
       let some = takes.some in
       let reach : reaches n 1 0 ≡ true = grind (arith, nat_tests, some) in
-      let way = at_controller sign_in step n (omega (arith, count_is)) w p (node_of j.nodes 1) m rest takes (sign_at_controller f g p m labelled) in
+      let way = at_controller sign_in (node_step f) n (omega (arith, count_is)) w p (node_of j.nodes 1) m rest takes (sign_at_controller f g p m labelled) in
       record {
         switch = h.switch;
         switch_is = λ d. left.others 0 d (omega arith) ∙ h.switch_is d;
         controller = (controller_step c p m).node;
         controller_is = left.own;
         is = controller_ending n reach f g c (known f g c j.world.ops j.world.shares j.world.next j.shown_is.controller) (flag h.switch.closed) p m labelled
-            (on_way sign_in (world_next step w (at 1 p))) (total finish w) (total finish (world_next step w (at 1 p)))
+            (on_way sign_in (world_next (node_step f) w (at 1 p))) (total finish w) (total finish (world_next (node_step f) w (at 1 p)))
             (subst (λ xs. IsEnding (flag h.switch.closed) c xs (total finish w)) way
             (subst (λ x. IsEnding (flag h.switch.closed) x (on_way sign_in w) (total finish w)) same h.is))
-            (total_after step n w 1 p (node_of j.nodes 1) m rest takes finish) (no_install_to f g None p 1 m (omega arith) labelled);
+            (total_after (node_step f) n w 1 p (node_of j.nodes 1) m rest takes finish) (no_install_to f g None p 1 m (omega arith) labelled);
       }
   ends_after w (suc (suc i)) p m rest j takes labelled labels h =
       let k : ℕ = suc (suc i) in
-      let left = taken_outcome step n w k p (node_of j.nodes k) m rest takes in
+      let left = taken_outcome (node_step f) n w k p (node_of j.nodes k) m rest takes in
       let other : k ≢ 1 = (λ never. absurd (omega (arith, never))) in
-      let sent = none_sent f g None n k (step (node_of j.nodes k) p m).sends other labels in
+      let sent = none_sent f g None n k (node_step f (node_of j.nodes k) p m).sends other labels in
       let none = no_install_to f g None p k m (omega arith) labelled in
-      let weight = total_after step n w k p (node_of j.nodes k) m rest takes finish in
-      let way = at_instance sign_in step n (omega (arith, count_is)) w p (node_of j.nodes k) m rest i takes in
+      let weight = total_after (node_step f) n w k p (node_of j.nodes k) m rest takes finish in
+      let way = at_instance sign_in (node_step f) n (omega (arith, count_is)) w p (node_of j.nodes k) m rest i takes in
       record {
         switch = h.switch;
         switch_is = λ d. left.others 0 d (omega arith) ∙ h.switch_is d;

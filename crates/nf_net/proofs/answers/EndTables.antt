@@ -69,10 +69,8 @@ quiet_found : (store : Store) (op : ℕ) (es : List (ℕ × Operation)) (o : Ope
 quiet_found store op [] o h there = cc
 quiet_found store op (e ∷ es) o h there =
     let all = and_parts (is_quiet store e.1) (list_all (λ x. is_quiet store x.1) es) h in
-    elim (eq_by_cmp nat_cmp op e.0) as (λ b. cond b (Some e.1) (finite.find nat_cmp op es) ≡ Some o → is_quiet store o ≡ true) [
-      | true ↦ λ here. let same : e.1 ≡ o = cc in subst (λ x. is_quiet store x ≡ true) same all.0
-      | false ↦ λ rest. quiet_found store op es o all.1 rest
-    ] there
+    split (eq_by_cmp nat_cmp op e.0) (λ b. cond b (Some e.1) (finite.find nat_cmp op es) ≡ Some o → is_quiet store o ≡ true)
+    (λ _ here. let same : e.1 ≡ o = cc in subst (λ x. is_quiet store x ≡ true) same all.0) (λ _ rest. quiet_found store op es o all.1 rest) there
 
 pub quiet_settled : (ops : OpenOperations) (store : Store) → are_quiet ops store ≡ true → (op : ℕ) → IsSettled (finite.get ops op)
 quiet_settled ops store h op = by_got (finite.get ops op) refl
@@ -121,10 +119,8 @@ module _ (g : Given) (c : ControllerState) (are : AreKnown g c) where
   share_rests op s there did l = record {
     end_same = l.end_same;
     settled = λ h k. subst IsSettled (sym (l.operations k))
-        (elim (k == op) as (λ b. IsSettled (cond b (Some (Share (record s { phase = l.after }))) (finite.get c.operations k))) [
-          | true ↦ still_set_up (is_set_up s.phase) (is_set_up l.after) l.answer l.tells (subst IsSettled there (h op))
-          | false ↦ h k
-        ]);
+        (split (k == op) (λ b. IsSettled (cond b (Some (Share (record s { phase = l.after }))) (finite.get c.operations k)))
+        (λ _. still_set_up (is_set_up s.phase) (is_set_up l.after) l.answer l.tells (subst IsSettled there (h op))) (λ _. h k));
   }
     where
       still_set_up : (was now : Bool) (a : Option Answer) → Tells was now a → was ≡ true → now ≡ true
@@ -224,10 +220,8 @@ NoSign sends = Each (λ x. sign_in x.1 ≡ []) sends
 
 no_sign : (r : ℕ) (sends : List (ℕ × Msg)) → NoSign sends → picked sign_in (core_sent r sends) ≡ []
 no_sign r [] h = refl
-no_sign r (x ∷ xs) h = elim (x.0 == r) as (λ b. picked sign_in ((if b then x.1 ∷ [] else []) ++ core_sent r xs) ≡ []) [
-  | true ↦ ap (λ v. v ++ picked sign_in (core_sent r xs)) h.0 ∙ no_sign r xs h.1
-  | false ↦ no_sign r xs h.1
-]
+no_sign r (x ∷ xs) h = split (x.0 == r) (λ b. picked sign_in ((if b then x.1 ∷ [] else []) ++ core_sent r xs) ≡ [])
+    (λ _. ap (λ v. v ++ picked sign_in (core_sent r xs)) h.0 ∙ no_sign r xs h.1) (λ _. no_sign r xs h.1)
 
 abbrev pub flag : Bool → ℕ
 flag b = if b then 1 else 0
@@ -268,14 +262,15 @@ module _ (s : SwitchState) where
       [ true ↦ closes m none off s refl ((instance_node i, a) ∷ []) [] (h, tt) | false ↦ still_closes m none off ]
 
   install_closes : (op : ℕ) (filter : Filter) (from : ℕ) (to : Target) → Closes s (Msg.Install op filter from to) (switch.on_install s op filter from to)
-  install_closes op filter from to = elim (nat_lt from s.instances && is_there s to) as (λ b. Closes s (Msg.Install op filter from to) (if b then record {
-    node = record s { rules = rules_redirected (record { filter = filter; from = Target.Instance from; to = to }) s.rules };
-    sends = (instance_node from, Msg.Fence op) ∷ [];
-    notes = Note.Installed op ∷ [];
-  } else switch.still s)) [
-    | true ↦ closes (Msg.Install op filter from to) refl refl _ refl _ _ (refl, tt)
-    | false ↦ still_closes (Msg.Install op filter from to) refl refl
-  ]
+  install_closes op filter from to = split (nat_lt from s.instances && is_there s to)
+      (λ b. Closes s (Msg.Install op filter from to)
+      (if b then record {
+        node = record s { rules = rules_redirected (record { filter = filter; from = Target.Instance from; to = to }) s.rules };
+        sends =
+            (instance_node from, Msg.Fence op) ∷ [];
+        notes = Note.Installed op ∷ [];
+      } else switch.still s))
+      (λ _. closes (Msg.Install op filter from to) refl refl _ refl _ _ (refl, tt)) (λ _. still_closes (Msg.Install op filter from to) refl refl)
 
   module _ {R : Type 0} (f : Semantics R) (g : Given) where
     pub switch_closes : (p : ℕ) (m : Msg) → Label f g p 0 m → Closes s m (switch_step s m)

@@ -25,18 +25,15 @@ module _ (test : Operation → Bool) where
   none_passes (e ∷ es) is k = split (test e.1)
       (λ b. (if b then Some e else find (λ x. test x.1) es) ≡ None → passes test (cond (eq_by_cmp nat_cmp k e.0) (Some e.1) (finite.find nat_cmp k es)) ≡ false)
       (λ on never. cc)
-      (λ off rest. elim (eq_by_cmp nat_cmp k e.0) as (λ b. passes test (cond b (Some e.1) (finite.find nat_cmp k es)) ≡ false) [
-        | true ↦ off
-        | false ↦ none_passes es rest k
-      ]) is
+      (λ off rest. split (eq_by_cmp nat_cmp k e.0) (λ b. passes test (cond b (Some e.1) (finite.find nat_cmp k es)) ≡ false) (λ _. off)
+      (λ _. none_passes es rest k)) is
 
   found_above : (j : ℕ) (es : Entries) (x : ℕ × Operation) → T (below_all nat_cmp j es) → find (λ e. test e.1) es ≡ Some x → j < x.0
   found_above j [] x below is = cc
-  found_above j (e ∷ es) x below is = elim (test e.1) as (λ b. (if b then Some e else find (λ y. test y.1) es) ≡ Some x → j < x.0) [
-    | true ↦ λ here. let same : e ≡ x = ap (λ o. unwrap_or o e) here in
-        subst (λ y. j < y.0) same (is_less j e.0 (and_yes (is_lt (nat_cmp j e.0)) (below_all nat_cmp j es) below).0)
-    | false ↦ λ rest. found_above j es x (and_yes (is_lt (nat_cmp j e.0)) (below_all nat_cmp j es) below).1 rest
-  ] is
+  found_above j (e ∷ es) x below is = split (test e.1) (λ b. (if b then Some e else find (λ y. test y.1) es) ≡ Some x → j < x.0)
+      (λ _ here. let same : e ≡ x = ap (λ o. unwrap_or o e) here in
+      subst (λ y. j < y.0) same (is_less j e.0 (and_yes (is_lt (nat_cmp j e.0)) (below_all nat_cmp j es) below).0))
+      (λ _ rest. found_above j es x (and_yes (is_lt (nat_cmp j e.0)) (below_all nat_cmp j es) below).1 rest) is
 
   record IsFirst (es : Entries) (k : ℕ) : Type 0 where
     here : passes test (finite.find nat_cmp k es) ≡ true
@@ -60,10 +57,8 @@ module _ (test : Operation → Bool) where
       let there = first.here in
       record {
         here = rw other there;
-        none = λ j small. elim (eq_by_cmp nat_cmp j e.0) as (λ b. passes test (cond b (Some e.1) (finite.find nat_cmp j es)) ≡ false) [
-          | true ↦ off
-          | false ↦ first.none j small
-        ];
+        none = λ j small. split (eq_by_cmp nat_cmp j e.0) (λ b. passes test (cond b (Some e.1) (finite.find nat_cmp j es)) ≡ false) (λ _. off)
+            (λ _. first.none j small);
       }) is
     where
       below : T (below_all nat_cmp e.0 es)

@@ -1,7 +1,7 @@
 -- Of every run, the switch's rules change once for each move that is done and for each share that began, and for no other command.
 use Rattle.nf_net.proofs.Words.{◌≡◌, ◌≢◌, ℕ, zero, suc, ◌+◌, ◌≤◌, Bool, true, false, Option, Some, None, List, [], ◌∷◌, length, get_or, refl, sym, ap, ◌∙◌}
-use Rattle.nf_net.proofs.Words.{subst, arith, if◌then◌else◌, Global, nat_cmp, nat_tests, FunctionLaws, Semantics, Answer, Msg, Note, Choice, Network, Stepped}
-use Rattle.nf_net.proofs.Words.{IsRun, is_done, reaches, run, world_next, done_weight, at, opening_weight, Takes, taken_outcome, EachSent, total, sent_weight}
+use Rattle.nf_net.proofs.Words.{subst, arith, if◌then◌else◌, Global, nat_cmp, nat_tests, FunctionLaws, Semantics, Answer, Msg, Note, Choice, Network, IsRun}
+use Rattle.nf_net.proofs.Words.{is_done, reaches, run, world_next, done_weight, at, opening_weight, Takes, taken_outcome, EachSent, total, sent_weight}
 use Rattle.nf_net.proofs.Words.{total_after, Phase, ShareState, Operation, Move, Copy, Share, ControllerState, controller_step, opened_controller, switch_step}
 use Rattle.nf_net.proofs.Words.{Config, Node, Controller, answers_of, times_installed, IsInput, node_step, node_ready, node_ended, first_nodes}
 use Rattle.nf_net.proofs.Words.{answers_of-append, times_installed-append, Given, Label, Joined, node_of, known, instance_quiet, controller_uninstalled, given}
@@ -33,35 +33,32 @@ no_dones : (moving : Bool) (op : ℕ) (notes : List Note) → AreOther notes →
 no_dones moving op notes h = ap (dones moving) (none_answered op notes (other_not_answered op notes h))
 
 module _ {F R : Type 0} (f : Semantics R) (g : Given) (n : ℕ) where
-  abbrev step : Node F R → ℕ → Msg → Stepped (Node F R) Msg Note
-  step = node_step f
-
-  -- what waits, and the log, after a step
-  balance_after : (w : Network (Node F R) Msg Note) (k p : ℕ) (node : Node F R) (m : Msg) (rest : List Msg) (takes : Takes step n w k p node m rest)
+  -- what waits, and the log, after a (node_step f)
+  balance_after : (w : Network (Node F R) Msg Note) (k p : ℕ) (node : Node F R) (m : Msg) (rest : List Msg) (takes : Takes (node_step f) n w k p node m rest)
       (op before after : ℕ)
       → total (install op) w + times_installed op w.log ≡ before + dones (is_moving (g.orders op)) (answers_of op w.log)
-      → before + sent_weight (install op) n k (step node p m).sends + times_installed op (step node p m).notes
-      ≡ after + dones (is_moving (g.orders op)) (answers_of op (step node p m).notes) + install op m
-      → total (install op) (world_next step w (at k p)) + times_installed op (world_next step w (at k p)).log
-      ≡ after + dones (is_moving (g.orders op)) (answers_of op (world_next step w (at k p)).log)
+      → before + sent_weight (install op) n k (node_step f node p m).sends + times_installed op (node_step f node p m).notes
+      ≡ after + dones (is_moving (g.orders op)) (answers_of op (node_step f node p m).notes) + install op m
+      → total (install op) (world_next (node_step f) w (at k p)) + times_installed op (world_next (node_step f) w (at k p)).log
+      ≡ after + dones (is_moving (g.orders op)) (answers_of op (world_next (node_step f) w (at k p)).log)
   balance_after w k p node m rest takes op before after balance changes =
-      let left = taken_outcome step n w k p node m rest takes in
-      let notes = (step node p m).notes in
-      let weight = total_after step n w k p node m rest takes (install op) in
-      let installed : times_installed op (world_next step w (at k p)).log ≡ times_installed op w.log + times_installed op notes =
+      let left = taken_outcome (node_step f) n w k p node m rest takes in
+      let notes = (node_step f node p m).notes in
+      let weight = total_after (node_step f) n w k p node m rest takes (install op) in
+      let installed : times_installed op (world_next (node_step f) w (at k p)).log ≡ times_installed op w.log + times_installed op notes =
       ap (times_installed op) left.log ∙ times_installed-append op w.log notes in
-      let answered : dones (is_moving (g.orders op)) (answers_of op (world_next step w (at k p)).log)
+      let answered : dones (is_moving (g.orders op)) (answers_of op (world_next (node_step f) w (at k p)).log)
       ≡ dones (is_moving (g.orders op)) (answers_of op w.log) + dones (is_moving (g.orders op)) (answers_of op notes) =
       ap (λ l. dones (is_moving (g.orders op)) (answers_of op l)) left.log ∙ ap (dones (is_moving (g.orders op))) (answers_of-append op w.log notes)
       ∙ dones-append (is_moving (g.orders op)) (answers_of op w.log) (answers_of op notes) in
       omega (arith, balance, changes, weight, installed, answered)
 
   installs_after : (w : Network (Node F R) Msg Note) (k p : ℕ) (m : Msg) (rest : List Msg) (j : Joined f g n w)
-      (takes : Takes step n w k p (node_of j.nodes k) m rest)
-      → Label f g p k m → EachSent (Label f g) k (step (node_of j.nodes k) p m).sends → Installs g w → Installs g (world_next step w (at k p))
+      (takes : Takes (node_step f) n w k p (node_of j.nodes k) m rest)
+      → Label f g p k m → EachSent (Label f g) k (node_step f (node_of j.nodes k) p m).sends → Installs g w → Installs g (world_next (node_step f) w (at k p))
   installs_after w zero p m rest j takes labelled labels h =
       let s = j.nodes.switch in
-      let left = taken_outcome step n w 0 p (node_of j.nodes 0) m rest takes in
+      let left = taken_outcome (node_step f) n w 0 p (node_of j.nodes 0) m rest takes in
       record {
         controller = h.controller;
         controller_is = λ d. left.others 1 d (omega arith) ∙ h.controller_is d;
@@ -74,7 +71,7 @@ module _ {F R : Type 0} (f : Semantics R) (g : Given) (n : ℕ) where
       }
   installs_after w (suc zero) p m rest j takes labelled labels h =
       let c = j.nodes.controller in
-      let left = taken_outcome step n w 1 p (node_of j.nodes 1) m rest takes in
+      let left = taken_outcome (node_step f) n w 1 p (node_of j.nodes 1) m rest takes in
       let same : h.controller ≡ c = own_controller j takes.receiver h.controller h.controller_is in
       let some = takes.some in
       let reach : reaches n 1 0 ≡ true = grind (arith, nat_tests, some) in
@@ -93,14 +90,14 @@ module _ {F R : Type 0} (f : Semantics R) (g : Given) (n : ℕ) where
   installs_after w (suc (suc i)) p m rest j takes labelled labels h =
       let k : ℕ = suc (suc i) in
       let instance = j.nodes.instance k in
-      let left = taken_outcome step n w k p (node_of j.nodes k) m rest takes in
-      let notes = (step (node_of j.nodes k) p m).notes in
+      let left = taken_outcome (node_step f) n w k p (node_of j.nodes k) m rest takes in
+      let notes = (node_step f (node_of j.nodes k) p m).notes in
       let other : k ≢ 1 = (λ never. absurd (omega (arith, never))) in
       record {
         controller = h.controller;
         controller_is = λ d. left.others 1 d (omega arith) ∙ h.controller_is d;
         balance = λ op.
-            let sent = none_sent f g (Some op) n k (step (node_of j.nodes k) p m).sends other labels in
+            let sent = none_sent f g (Some op) n k (node_step f (node_of j.nodes k) p m).sends other labels in
             let taken_none = no_install_to f g (Some op) p k m (omega arith) labelled in
             let noted = quiet_installed op instance.index notes (instance_quiet f instance m) in
             let none = no_dones (is_moving (g.orders op)) op notes (instance_says f g k instance m).notes_are in

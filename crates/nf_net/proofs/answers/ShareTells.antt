@@ -4,7 +4,7 @@ use Rattle.nf_net.proofs.Words.{◌≡◌, ℕ, Bool, true, false, cond, Option,
 use Rattle.nf_net.proofs.Words.{find, option_map, Flow, Chunk, FullCell, stored_of, Answer, Msg, instance_node, SharePhase, SharePlan, ShareState, ShareRow}
 use Rattle.nf_net.proofs.Words.{home, others, syncs, setting, syncing, on_fenced, on_chunks, on_shared, on_synced, service_if_idle, Operation, Move, Copy}
 use Rattle.nf_net.proofs.Words.{Share, turn_of, lasts, ControllerState, after_turn, hand_step, queue_step, on_diverted, Each, OpenAt, answered, noted}
-use Rattle.nf_net.proofs.Words.{ShareLeaves, handed_leaves, queued_leaves, flow_of, Done}
+use Rattle.nf_net.proofs.Words.{ShareLeaves, handed_leaves, queued_leaves, flow_of, Done, split}
 use Rattle.std.specs.FinMap as finite
 use Rattle.copy_share.specs.Share.{next_phase, row}
 use Rattle.ctrl_node.specs.Operations.{Turn, is_shared_by}
@@ -47,17 +47,13 @@ module _ (plan : SharePlan) where
   syncs_own chunks (m ∷ ms) = (refl, syncs_own chunks ms)
 
   setting_tells : (ph : SharePhase) → is_set_up ph ≡ false → (left : ℕ) (sends : List (ℕ × Msg)) → AreOfShare sends → RowTells ph (setting left sends)
-  setting_tells ph off left sends own = elim (left == 0)
-      as (λ b. RowTells ph (if b then record { phase = SharePhase.Idle; sends = sends; answer = Some Done } else next_phase (SharePhase.Setting left) sends)) [
-        | true ↦ record { tells = (refl, off, refl); sends = own }
-        | false ↦ record { tells = off; sends = own }
-      ]
+  setting_tells ph off left sends own = split (left == 0)
+      (λ b. RowTells ph (if b then record { phase = SharePhase.Idle; sends = sends; answer = Some Done } else next_phase (SharePhase.Setting left) sends))
+      (λ _. record { tells = (refl, off, refl); sends = own }) (λ _. record { tells = off; sends = own })
 
   syncing_tells : (ph : SharePhase) → is_set_up ph ≡ true → (left : ℕ) (sends : List (ℕ × Msg)) → AreOfShare sends → RowTells ph (syncing left sends)
-  syncing_tells ph on left sends own = elim (left == 0) as (λ b. RowTells ph (next_phase (if b then SharePhase.Idle else SharePhase.Syncing left) sends)) [
-    | true ↦ record { tells = on; sends = own }
-    | false ↦ record { tells = on; sends = own }
-  ]
+  syncing_tells ph on left sends own = split (left == 0) (λ b. RowTells ph (next_phase (if b then SharePhase.Idle else SharePhase.Syncing left) sends))
+      (λ _. record { tells = on; sends = own }) (λ _. record { tells = on; sends = own })
 
   fenced_tells : (ph : SharePhase) → RowTells ph (on_fenced plan ph)
   fenced_tells SharePhase.Fencing = record { tells = refl; sends = (refl, tt) }
@@ -69,12 +65,11 @@ module _ (plan : SharePlan) where
   chunks_tells ph chunks = stays ph
 
   shared_tells : (ph : SharePhase) (sender : ℕ) (chunk : Chunk) → RowTells ph (on_shared plan ph sender chunk)
-  shared_tells (SharePhase.Out member) sender chunk = elim (sender == instance_node member) as (λ b. RowTells (SharePhase.Out member)
-      (if b then syncing (length (others plan member)) (syncs plan member (chunk ∷ [])) else next_phase (SharePhase.Out member) [])) [
-        | true ↦ syncing_tells (SharePhase.Out member) refl (length (others plan member)) (syncs plan member (chunk ∷ []))
-            (syncs_own (chunk ∷ []) (others plan member))
-        | false ↦ stays (SharePhase.Out member)
-      ]
+  shared_tells (SharePhase.Out member) sender chunk = split (sender == instance_node member)
+      (λ b. RowTells (SharePhase.Out member)
+      (if b then syncing (length (others plan member)) (syncs plan member (chunk ∷ [])) else next_phase (SharePhase.Out member) []))
+      (λ _. syncing_tells (SharePhase.Out member) refl (length (others plan member)) (syncs plan member (chunk ∷ []))
+      (syncs_own (chunk ∷ []) (others plan member))) (λ _. stays (SharePhase.Out member))
   shared_tells ph sender chunk = stays ph
 
   synced_tells : (ph : SharePhase) → RowTells ph (on_synced ph)

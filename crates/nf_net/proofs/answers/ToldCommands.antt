@@ -2,7 +2,7 @@
 use Rattle.nf_net.proofs.Words.{◌≡◌, ℕ, zero, suc, ◌+◌, ◌≤◌, Bool, true, false, Option, Some, None, List, [], ◌∷◌, ◌++◌, length, refl, sym, ap, ◌∙◌, subst}
 use Rattle.nf_net.proofs.Words.{arith, if◌then◌else◌, ◌&&◌, ◌||◌, ◌==◌, not, nat_lt, find, is_some, option_map, filter_map, option_or, Global, nat_tests}
 use Rattle.nf_net.proofs.Words.{Decides-eqb, Decides-ltb, and_parts, Filter, FunctionLaws, Semantics, Answer, Unknown, Overlap, Order, Msg, Note, Choice}
-use Rattle.nf_net.proofs.Words.{Network, Stepped, IsRun, is_done, reaches, run, world_next, done_weight, at, opening_weight, Takes, taken_outcome, weigh, total}
+use Rattle.nf_net.proofs.Words.{Network, IsRun, is_done, reaches, run, world_next, done_weight, at, opening_weight, Takes, taken_outcome, weigh, total}
 use Rattle.nf_net.proofs.Words.{sent_weight, total_after, Operation, Move, Copy, Share, ControllerState, refusal, unknown_name, overlap, move_between}
 use Rattle.nf_net.proofs.Words.{copy_between, share_begin, begin_step, decision_step, on_asked, controller_step, place_of, SwitchState, switch_step, Config}
 use Rattle.nf_net.proofs.Words.{Node, Controller, is_begun, has_answered, is_share, keeps_off, answers_of, IsInput, commands, order_numbered, ends_last}
@@ -153,28 +153,26 @@ abbrev pub Told : List Msg → {F R : Type 0} → Network (Node F R) Msg Note �
 Told items w = (op : ℕ) → 1 ≤ weigh (told op) items → 1 ≤ total (told op) w + flag (is_noted op w.log)
 
 module _ {F R : Type 0} (f : Semantics R) (g : Given) (n : ℕ) (count_is : n ≡ count f g + 2) (items : List Msg) where
-  abbrev step : Node F R → ℕ → Msg → Stepped (Node F R) Msg Note
-  step = node_step f
-
   told_after : (w : Network (Node F R) Msg Note) (k p : ℕ) (m : Msg) (rest : List Msg) (j : Joined f g n w)
-      (takes : Takes step n w k p (node_of j.nodes k) m rest)
-      → Label f g p k m → Busy g w → Told items w → Told items (world_next step w (at k p))
+      (takes : Takes (node_step f) n w k p (node_of j.nodes k) m rest)
+      → Label f g p k m → Busy g w → Told items w → Told items (world_next (node_step f) w (at k p))
   told_after w k p m rest j takes labelled b h op some = by_node k takes labelled
     where
-      -- what is left, by what the step sends and notes
-      left : (k : ℕ) (takes : Takes step n w k p (node_of j.nodes k) m rest)
-          → told op m ≤ sent_weight (told op) n k (step (node_of j.nodes k) p m).sends + flag (is_noted op (w.log ++ (step (node_of j.nodes k) p m).notes))
-          → 1 ≤ total (told op) (world_next step w (at k p)) + flag (is_noted op (world_next step w (at k p)).log)
+      -- what is left, by what the (node_step f) sends and notes
+      left : (k : ℕ) (takes : Takes (node_step f) n w k p (node_of j.nodes k) m rest)
+          → told op m ≤ sent_weight (told op) n k (node_step f (node_of j.nodes k) p m).sends + flag
+          (is_noted op (w.log ++ (node_step f (node_of j.nodes k) p m).notes))
+          → 1 ≤ total (told op) (world_next (node_step f) w (at k p)) + flag (is_noted op (world_next (node_step f) w (at k p)).log)
       left k takes less =
-          let notes = (step (node_of j.nodes k) p m).notes in
-          let log = ap (λ l. flag (is_noted op l)) (taken_outcome step n w k p (node_of j.nodes k) m rest takes).log in
-          let weight = total_after step n w k p (node_of j.nodes k) m rest takes (told op) in
+          let notes = (node_step f (node_of j.nodes k) p m).notes in
+          let log = ap (λ l. flag (is_noted op l)) (taken_outcome (node_step f) n w k p (node_of j.nodes k) m rest takes).log in
+          let weight = total_after (node_step f) n w k p (node_of j.nodes k) m rest takes (told op) in
           let more = noted_more op w.log notes in
           let was = h op some in
           omega (arith, log, weight, more, was, less)
 
-      by_node : (k : ℕ) → Takes step n w k p (node_of j.nodes k) m rest → Label f g p k m
-          → 1 ≤ total (told op) (world_next step w (at k p)) + flag (is_noted op (world_next step w (at k p)).log)
+      by_node : (k : ℕ) → Takes (node_step f) n w k p (node_of j.nodes k) m rest → Label f g p k m
+          → 1 ≤ total (told op) (world_next (node_step f) w (at k p)) + flag (is_noted op (world_next (node_step f) w (at k p)).log)
       by_node zero takes labelled =
           let reach : reaches n 0 1 ≡ true = grind (arith, nat_tests, count_is) in
           let sent = switch_told f g op n reach j.nodes.switch p m labelled in
@@ -189,11 +187,10 @@ module _ {F R : Type 0} (f : Semantics R) (g : Given) (n : ℕ) (count_is : n �
 -- a command of the input
 listed : (op : ℕ) (items : List Msg) (what : Order) → order_numbered items op ≡ Some what → 1 ≤ weigh (told op) items
 listed op [] what is = cc
-listed op (Msg.InCommand c ∷ items) what is = elim (c.op == op) as (λ b.
-    option_map (λ x. x.what) (if b then Some c else find (λ x. x.op == op) (commands items)) ≡ Some what → 1 ≤ (if b then 1 else 0) + weigh (told op) items) [
-      | true ↦ λ here. omega arith
-      | false ↦ λ behind. (let rest = listed op items what behind in omega (arith, rest))
-    ] is
+listed op (Msg.InCommand c ∷ items) what is = split (c.op == op)
+    (λ b. option_map (λ x. x.what) (if b then Some c else find (λ x. x.op == op) (commands items)) ≡ Some what → 1 ≤ (if b then 1 else 0) + weigh
+    (told op) items)
+    (λ _ here. omega arith) (λ _ behind. (let rest = listed op items what behind in omega (arith, rest))) is
 listed op (m ∷ items) what is = let rest = listed op items what is in omega (arith, rest)
 
 -- a command that isn't kept any longer was answered

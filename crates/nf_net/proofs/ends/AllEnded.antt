@@ -2,7 +2,7 @@
 use Rattle.nf_net.proofs.Words.{◌≡◌, ℕ, zero, suc, ◌+◌, ◌<◌, Bool, true, false, Option, Some, None, List, [], ◌∷◌, length, get_or, refl, sym, ap, ◌∙◌, subst}
 use Rattle.nf_net.proofs.Words.{arith, if◌then◌else◌, ◌&&◌, ◌==◌, not, find, list_all, nat_tests, Decides-eqb, Semantics, stored_of, FullCell, Msg, Note}
 use Rattle.nf_net.proofs.Words.{SharePhase, ShareState, is_idle, Operation, Move, Copy, Share, OpenOperations, is_quiet, are_quiet, Network, IsWorld, queue_at}
-use Rattle.nf_net.proofs.Words.{at, weigh, total, OpenShare, find_share, Node, Switch, node_ended, Given, place, Joined, silent_total}
+use Rattle.nf_net.proofs.Words.{at, weigh, total, OpenShare, find_share, Node, Switch, node_ended, Given, place, Joined, silent_total, split}
 use Rattle.std.specs.FinMap as finite
 use Rattle.proof_outlines.proofs.whole.OpenShares.{share_in, SeesOne}
 use Rattle.proof_outlines.proofs.whole.ShareOutline.{Rests}
@@ -19,10 +19,8 @@ use Rattle.nf_net.proofs.ends.EndingRuns.{HasEnding}
 -- all operations that are found pass a test, so all entries do
 none_fails : (q : Operation → Bool) (es : List (ℕ × Operation)) → find (λ e. not (q e.1)) es ≡ None → list_all (λ e. q e.1) es ≡ true
 none_fails q [] is = refl
-none_fails q (e ∷ es) is = elim (q e.1) as (λ b. (if not b then Some e else find (λ x. not (q x.1)) es) ≡ None → b && list_all (λ x. q x.1) es ≡ true) [
-  | true ↦ λ rest. none_fails q es rest
-  | false ↦ λ never. cc
-] is
+none_fails q (e ∷ es) is = split (q e.1) (λ b. (if not b then Some e else find (λ x. not (q x.1)) es) ≡ None → b && list_all (λ x. q x.1) es ≡ true)
+    (λ _ rest. none_fails q es rest) (λ _ never. cc) is
 
 found_pass : (ops : OpenOperations) (q : Operation → Bool) → ((op : ℕ) (o : Operation) → finite.get ops op ≡ Some o → q o ≡ true)
     → list_all (λ e. q e.1) (finite.entries ops) ≡ true

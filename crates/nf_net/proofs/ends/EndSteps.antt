@@ -203,11 +203,9 @@ module _ (n : ℕ) (s : SwitchState) where
   -- a stop for each instance
   sent-append : {M : Type 0} (r : ℕ) (w : M → ℕ) (xs ys : List (ℕ × M)) → weigh w (sent_for r (xs ++ ys)) ≡ weigh w (sent_for r xs) + weigh w (sent_for r ys)
   sent-append r w [] ys = omega arith
-  sent-append r w (x ∷ xs) ys = elim (x.0 == r) as (λ b. weigh w ((if b then x.1 ∷ [] else []) ++ sent_for r (xs ++ ys))
-      ≡ weigh w ((if b then x.1 ∷ [] else []) ++ sent_for r xs) + weigh w (sent_for r ys)) [
-        | true ↦ (let rest = sent-append r w xs ys in omega (arith, rest))
-        | false ↦ sent-append r w xs ys
-      ]
+  sent-append r w (x ∷ xs) ys = split (x.0 == r)
+      (λ b. weigh w ((if b then x.1 ∷ [] else []) ++ sent_for r (xs ++ ys)) ≡ weigh w ((if b then x.1 ∷ [] else []) ++ sent_for r xs) + weigh w (sent_for r ys))
+      (λ _. (let rest = sent-append r w xs ys in omega (arith, rest))) (λ _. sent-append r w xs ys)
 
   stops_sent : (count i : ℕ) → i < count → 1 ≤ weigh stop (sent_for (instance_node i) (stop_messages count))
   stops_sent zero i less = absurd (omega (arith, less))

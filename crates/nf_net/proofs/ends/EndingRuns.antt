@@ -3,7 +3,7 @@
 use Rattle.nf_net.proofs.Words.{◌≡◌, ◌≢◌, inl, inr, ℕ, zero, suc, ◌+◌, ◌<◌, ◌≤◌, Bool, true, false, None, List, [], ◌∷◌, length, length-append, get_or, refl}
 use Rattle.nf_net.proofs.Words.{sym, ap, ◌∙◌, subst, arith, if◌then◌else◌, ◌&&◌, ◌==◌, Global, nat_tests, Decides-eqb, length-map, Each, each-append, Fits}
 use Rattle.nf_net.proofs.Words.{FunctionLaws, Semantics, Msg, Note, instance_node, ControllerState, may_finish, controller_step, opened_controller, SwitchState}
-use Rattle.nf_net.proofs.Words.{switch_step, InstanceState, instance_step, Choice, Network, Stepped, IsRun, reaches, run, world_next, queue_at, at, put_on_link}
+use Rattle.nf_net.proofs.Words.{switch_step, InstanceState, instance_step, Choice, Network, IsRun, reaches, run, world_next, queue_at, at, put_on_link}
 use Rattle.nf_net.proofs.Words.{opening_weight, Takes, taken_outcome, weigh, total, total_after, Config, Node, Switch, Controller, IsInput, node_step}
 use Rattle.nf_net.proofs.Words.{node_ready, node_ended, first_nodes, first_switch, first_instance, first_instances, Given, Label, Joined, node_of, given}
 use Rattle.nf_net.proofs.Words.{all_fit, Instance, split}
@@ -61,20 +61,17 @@ stop_over m e = cc
 
 module _ {F R : Type 0} (f : Semantics R) (laws : FunctionLaws f) (g : Given) (fitting : (number : ℕ) → Fits g.site (g.packet number)) (n : ℕ)
     (count_is : n ≡ count f g + 2) (w : Network (Node F R) Msg Note) (j : Joined f g n w) (p : ℕ) (m : Msg) (rest : List Msg) where
-  abbrev step : Node F R → ℕ → Msg → Stepped (Node F R) Msg Note
-  step = node_step f
-
-  module _ (k : ℕ) (takes : Takes step n w k p (node_of j.nodes k) m rest) where
+  module _ (k : ℕ) (takes : Takes (node_step f) n w k p (node_of j.nodes k) m rest) where
     abbrev v : Network (Node F R) Msg Note
-    v = world_next step w (at k p)
+    v = world_next (node_step f) w (at k p)
 
     abbrev lost : (Msg → ℕ) → ℕ → ℕ → ℕ
     lost q s r = if (s == p) && (r == k) then q m else 0
 
     -- what stands on a link is at least what stood there but for the message that is taken, and what is put there
     link_is : (q : Msg → ℕ) (s r : ℕ)
-        → weigh q (queue_at v (at r s)) + lost q s r ≡ weigh q (queue_at w (at r s)) + weigh q (put_on_link n k s r (step (node_of j.nodes k) p m).sends)
-    link_is q s r = cell step n w k p (node_of j.nodes k) m rest takes (λ _ _ x. q x) s r
+        → weigh q (queue_at v (at r s)) + lost q s r ≡ weigh q (queue_at w (at r s)) + weigh q (put_on_link n k s r (node_step f (node_of j.nodes k) p m).sends)
+    link_is q s r = cell (node_step f) n w k p (node_of j.nodes k) m rest takes (λ _ _ x. q x) s r
 
     link_less : (q : Msg → ℕ) (s r : ℕ) → weigh q (queue_at w (at r s)) ≤ weigh q (queue_at v (at r s)) + lost q s r
     link_less q s r = let c = link_is q s r in omega (arith, c)
@@ -91,7 +88,7 @@ module _ {F R : Type 0} (f : Semantics R) (laws : FunctionLaws f) (g : Given) (f
 
     -- an instance that isn't the one that took the message
     other_node : (i : ℕ) (d : Node F R) → suc (suc i) ≢ k → node_ended (get_or v.nodes (suc (suc i)) d) ≡ node_ended (get_or w.nodes (suc (suc i)) d)
-    other_node i d other = ap node_ended ((taken_outcome step n w k p (node_of j.nodes k) m rest takes).others (suc (suc i)) d other)
+    other_node i d other = ap node_ended ((taken_outcome (node_step f) n w k p (node_of j.nodes k) m rest takes).others (suc (suc i)) d other)
 
     other_stops : (i : ℕ) (d : Node F R) → suc (suc i) ≢ k
         → 1 ≤ weigh stop (queue_at w (at (suc (suc i)) 0)) + flag (node_ended (get_or w.nodes (suc (suc i)) d))
@@ -112,10 +109,10 @@ module _ {F R : Type 0} (f : Semantics R) (laws : FunctionLaws f) (g : Given) (f
     same_one : 1 < n → h.controller ≡ j.nodes.controller
     same_one few = own_controller j few h.controller h.controller_is
 
-    at_switch : (takes : Takes step n w 0 p (node_of j.nodes 0) m rest) → Label f g p 0 m → HasEnding n (world_next step w (at 0 p))
+    at_switch : (takes : Takes (node_step f) n w 0 p (node_of j.nodes 0) m rest) → Label f g p 0 m → HasEnding n (world_next (node_step f) w (at 0 p))
     at_switch takes label =
         let s = j.nodes.switch in
-        let left = taken_outcome step n w 0 p (node_of j.nodes 0) m rest takes in
+        let left = taken_outcome (node_step f) n w 0 p (node_of j.nodes 0) m rest takes in
         let same : h.switch ≡ s = same_switch takes.some in
         let instances = j.shown_is.switch.instances in
         let reach : reaches n 0 1 ≡ true = grind (arith, nat_tests, count_is) in
@@ -126,14 +123,14 @@ module _ {F R : Type 0} (f : Semantics R) (laws : FunctionLaws f) (g : Given) (f
           controller = h.controller;
           controller_is = λ d. left.others 1 d (λ e. cc) ∙ h.controller_is d;
           many = h.many;
-          came = let law = total_after step n w 0 p (node_of j.nodes 0) m rest takes ending in
+          came = let law = total_after (node_step f) n w 0 p (node_of j.nodes 0) m rest takes ending in
               let hands = did.hands in let was = h.came in omega (arith, law, hands, was);
           quiet = h.quiet;
-          finished = λ sent. (let law = total_after step n w 0 p (node_of j.nodes 0) m rest takes finish in
-              carry_on (finish m) (total finish w) (total finish (world_next step w (at 0 p))) h.switch.closed (switch_step s m).node.closed did.closes
+          finished = λ sent. (let law = total_after (node_step f) n w 0 p (node_of j.nodes 0) m rest takes finish in
+              carry_on (finish m) (total finish w) (total finish (world_next (node_step f) w (at 0 p))) h.switch.closed (switch_step s m).node.closed did.closes
               (λ c. did.closed (ap (λ x. x.closed) (sym same) ∙ c)) (omega (arith, law)) (h.finished sent));
-          stops = λ closed i low d. (elim (did.stops closed) as (λ _. 1 ≤ weigh stop (queue_at (world_next step w (at 0 p)) (at (suc (suc i)) 0))
-              + flag (node_ended (get_or (world_next step w (at 0 p)).nodes (suc (suc i)) d))) [
+          stops = λ closed i low d. (elim (did.stops closed) as (λ _. 1 ≤ weigh stop (queue_at (world_next (node_step f) w (at 0 p)) (at (suc (suc i)) 0))
+              + flag (node_ended (get_or (world_next (node_step f) w (at 0 p)).nodes (suc (suc i)) d))) [
                 | inl was ↦ other_stops 0 takes i d (λ e. absurd (omega (arith, e))) (h.stops (ap (λ x. x.closed) same ∙ was) i low d)
                 | inr all ↦ (
                     let two : i + 2 ≡ suc (suc i) = omega arith in
@@ -149,10 +146,10 @@ module _ {F R : Type 0} (f : Semantics R) (laws : FunctionLaws f) (g : Given) (f
               omega (arith, kept, was);
         }
 
-    at_controller : (takes : Takes step n w 1 p (node_of j.nodes 1) m rest) → Label f g p 1 m → HasEnding n (world_next step w (at 1 p))
+    at_controller : (takes : Takes (node_step f) n w 1 p (node_of j.nodes 1) m rest) → Label f g p 1 m → HasEnding n (world_next (node_step f) w (at 1 p))
     at_controller takes label =
         let c = j.nodes.controller in
-        let left = taken_outcome step n w 1 p (node_of j.nodes 1) m rest takes in
+        let left = taken_outcome (node_step f) n w 1 p (node_of j.nodes 1) m rest takes in
         let same : h.controller ≡ c = same_one takes.receiver in
         let some = takes.some in
         let reach : reaches n 1 0 ≡ true = grind (arith, nat_tests, some) in
@@ -167,14 +164,14 @@ module _ {F R : Type 0} (f : Semantics R) (laws : FunctionLaws f) (g : Given) (f
           controller_is = left.own;
           many = ap length did.stopped ∙ did.row.many ∙ long ∙ ap length (sym did.names);
           came =
-              let law = total_after step n w 1 p (node_of j.nodes 1) m rest takes ending in
-              carry_on (ending m) (total ending w) (total ending (world_next step w (at 1 p))) c.end_came after.end_came (λ one. did.came
+              let law = total_after (node_step f) n w 1 p (node_of j.nodes 1) m rest takes ending in
+              carry_on (ending m) (total ending w) (total ending (world_next (node_step f) w (at 1 p))) c.end_came after.end_came (λ one. did.came
               ∙ did.row.comes one) (λ e. did.came ∙ did.row.came e) (omega (arith, law)) (subst (λ y. 1 ≤ total ending w + flag y.end_came) same h.came);
           quiet = did.quiet;
           finished = λ sent.
-              let law = total_after step n w 1 p (node_of j.nodes 1) m rest takes finish in
+              let law = total_after (node_step f) n w 1 p (node_of j.nodes 1) m rest takes finish in
               let none = no_install_to f g None p 1 m (omega arith) label in
-              elim (did.sent sent) as (λ _. 1 ≤ total finish (world_next step w (at 1 p)) + flag h.switch.closed) [
+              elim (did.sent sent) as (λ _. 1 ≤ total finish (world_next (node_step f) w (at 1 p)) + flag h.switch.closed) [
                 | inl was ↦ (let before = h.finished (ap (λ y. y.finish_sent) same ∙ was) in omega (arith, law, none, before))
                 | inr new ↦ omega (arith, law, none, new)
               ];
@@ -184,7 +181,7 @@ module _ {F R : Type 0} (f : Semantics R) (laws : FunctionLaws f) (g : Given) (f
               let here : i < length c.stopped = omega (arith, long, ap length names, low, count_is) in
               let two : suc (suc i) ≡ instance_node i = omega arith in
               carry_on (lost 1 takes final (suc (suc i)) 1) (weigh final (queue_at w (at 1 (suc (suc i)))))
-              (weigh final (queue_at (world_next step w (at 1 p)) (at 1 (suc (suc i))))) (get_or c.stopped i false) (get_or after.stopped i false)
+              (weigh final (queue_at (world_next (node_step f) w (at 1 p)) (at 1 (suc (suc i))))) (get_or c.stopped i false) (get_or after.stopped i false)
               (λ one. (let it = lost_some 1 takes final (suc (suc i)) 1 one in
               ap (λ xs. get_or xs i false) did.stopped ∙ did.row.stops i it.0 (sym it.1 ∙ two) here))
               (λ e. ap (λ xs. get_or xs i false) did.stopped ∙ did.row.stays i e)
@@ -192,12 +189,13 @@ module _ {F R : Type 0} (f : Semantics R) (laws : FunctionLaws f) (g : Given) (f
               (subst (λ y. 1 ≤ weigh final (queue_at w (at 1 (suc (suc i)))) + flag (get_or y.stopped i false)) same was);
         }
 
-    at_instance : (y : ℕ) (takes : Takes step n w (suc (suc y)) p (node_of j.nodes (suc (suc y))) m rest) → Label f g p (suc (suc y)) m → HasEnough f n w
-        → HasEnding n (world_next step w (at (suc (suc y)) p))
+    at_instance : (y : ℕ) (takes : Takes (node_step f) n w (suc (suc y)) p (node_of j.nodes (suc (suc y))) m rest) → Label f g p (suc (suc y)) m
+        → HasEnough f n w
+        → HasEnding n (world_next (node_step f) w (at (suc (suc y)) p))
     at_instance y takes label enough =
         let k : ℕ = suc (suc y) in
         let x = j.nodes.instance k in
-        let left = taken_outcome step n w k p (node_of j.nodes k) m rest takes in
+        let left = taken_outcome (node_step f) n w k p (node_of j.nodes k) m rest takes in
         let leaves = its_leaves f laws g fitting n count_is w j p m rest y takes label enough in
         let none = no_ending_to f g p y m label in
         let unfinished = no_install_to f g None p k m (omega arith) label in
@@ -207,33 +205,33 @@ module _ {F R : Type 0} (f : Semantics R) (laws : FunctionLaws f) (g : Given) (f
           controller = h.controller;
           controller_is = λ d. left.others 1 d (λ e. absurd (omega (arith, e))) ∙ h.controller_is d;
           many = h.many;
-          came = let law = total_after step n w k p (node_of j.nodes k) m rest takes ending in let was = h.came in omega (arith, law, none, was);
+          came = let law = total_after (node_step f) n w k p (node_of j.nodes k) m rest takes ending in let was = h.came in omega (arith, law, none, was);
           quiet = h.quiet;
-          finished = λ sent. (let law = total_after step n w k p (node_of j.nodes k) m rest takes finish in
+          finished = λ sent. (let law = total_after (node_step f) n w k p (node_of j.nodes k) m rest takes finish in
               let was = h.finished sent in omega (arith, law, unfinished, was));
           stops = λ closed i low d. its_stops y takes leaves i low d (h.stops closed i low d);
           finals = λ i low d over. its_finals y takes leaves i low d over;
         }
       where
-        its_stops : (y : ℕ) (takes : Takes step n w (suc (suc y)) p (node_of j.nodes (suc (suc y))) m rest)
+        its_stops : (y : ℕ) (takes : Takes (node_step f) n w (suc (suc y)) p (node_of j.nodes (suc (suc y))) m rest)
             → StepLeaves f (over_by m (j.nodes.instance (suc (suc y))).ended) (instance_step f (j.nodes.instance (suc (suc y))) m) → (i : ℕ)
             → suc (suc i) < n → (d : Node F R) → 1 ≤ weigh stop (queue_at w (at (suc (suc i)) 0)) + flag (node_ended (get_or w.nodes (suc (suc i)) d))
-            → 1 ≤ weigh stop (queue_at (world_next step w (at (suc (suc y)) p)) (at (suc (suc i)) 0))
-            + flag (node_ended (get_or (world_next step w (at (suc (suc y)) p)).nodes (suc (suc i)) d))
+            → 1 ≤ weigh stop (queue_at (world_next (node_step f) w (at (suc (suc y)) p)) (at (suc (suc i)) 0))
+            + flag (node_ended (get_or (world_next (node_step f) w (at (suc (suc y)) p)).nodes (suc (suc i)) d))
         its_stops y takes leaves i low d was = split (suc (suc i) == suc (suc y))
-            (λ _. 1 ≤ weigh stop (queue_at (world_next step w (at (suc (suc y)) p)) (at (suc (suc i)) 0)) + flag
-            (node_ended (get_or (world_next step w (at (suc (suc y)) p)).nodes (suc (suc i)) d)))
+            (λ _. 1 ≤ weigh stop (queue_at (world_next (node_step f) w (at (suc (suc y)) p)) (at (suc (suc i)) 0)) + flag
+            (node_ended (get_or (world_next (node_step f) w (at (suc (suc y)) p)).nodes (suc (suc i)) d)))
             (λ on.
             let same : suc (suc i) ≡ suc (suc y) = (Decides-eqb (suc (suc i)) (suc (suc y))).0 on in
             let x = j.nodes.instance (suc (suc y)) in
             let before : node_ended (get_or w.nodes (suc (suc i)) d) ≡ x.ended = ap (λ q. node_ended (get_or w.nodes q d)) same
             ∙ ap node_ended (j.nodes_are (suc (suc y)) takes.receiver d) in
-            let after : node_ended (get_or (world_next step w (at (suc (suc y)) p)).nodes (suc (suc i)) d) ≡ over_by m x.ended =
-            ap (λ q. node_ended (get_or (world_next step w (at (suc (suc y)) p)).nodes q d)) same
-            ∙ ap node_ended ((taken_outcome step n w (suc (suc y)) p (node_of j.nodes (suc (suc y))) m rest takes).own d) ∙ leaves.ended in
+            let after : node_ended (get_or (world_next (node_step f) w (at (suc (suc y)) p)).nodes (suc (suc i)) d) ≡ over_by m x.ended =
+            ap (λ q. node_ended (get_or (world_next (node_step f) w (at (suc (suc y)) p)).nodes q d)) same
+            ∙ ap node_ended ((taken_outcome (node_step f) n w (suc (suc y)) p (node_of j.nodes (suc (suc y))) m rest takes).own d) ∙ leaves.ended in
             carry_on (lost (suc (suc y)) takes stop 0 (suc (suc i))) (weigh stop (queue_at w (at (suc (suc i)) 0)))
-            (weigh stop (queue_at (world_next step w (at (suc (suc y)) p)) (at (suc (suc i)) 0))) (node_ended (get_or w.nodes (suc (suc i)) d))
-            (node_ended (get_or (world_next step w (at (suc (suc y)) p)).nodes (suc (suc i)) d))
+            (weigh stop (queue_at (world_next (node_step f) w (at (suc (suc y)) p)) (at (suc (suc i)) 0))) (node_ended (get_or w.nodes (suc (suc i)) d))
+            (node_ended (get_or (world_next (node_step f) w (at (suc (suc y)) p)).nodes (suc (suc i)) d))
             (λ one. after ∙ over_stop m x.ended (lost_some (suc (suc y)) takes stop 0 (suc (suc i)) one).0)
             (λ e. after ∙ ap (over_by m) (sym before ∙ e) ∙ over_stays m)
             (link_less (suc (suc y)) takes stop 0 (suc (suc i))) was) (λ off. other_stops (suc (suc y)) takes i d (grind (arith, nat_tests, off)) was)
@@ -243,40 +241,41 @@ module _ {F R : Type 0} (f : Semantics R) (laws : FunctionLaws f) (g : Given) (f
         stop_sent y x low is = subst (λ q. 1 ≤ weigh final (put_on_link n (suc (suc y)) (suc (suc y)) 1 (instance_step f x q).sends)) (sym is)
             (let there : (suc (suc y) == suc (suc y)) && reaches n (suc (suc y)) 1 ≡ true = grind (arith, nat_tests, low) in rw there (omega arith))
 
-        its_finals : (y : ℕ) (takes : Takes step n w (suc (suc y)) p (node_of j.nodes (suc (suc y))) m rest)
+        its_finals : (y : ℕ) (takes : Takes (node_step f) n w (suc (suc y)) p (node_of j.nodes (suc (suc y))) m rest)
             → StepLeaves f (over_by m (j.nodes.instance (suc (suc y))).ended) (instance_step f (j.nodes.instance (suc (suc y))) m) → (i : ℕ)
-            → suc (suc i) < n → (d : Node F R) → node_ended (get_or (world_next step w (at (suc (suc y)) p)).nodes (suc (suc i)) d) ≡ true
-            → 1 ≤ weigh final (queue_at (world_next step w (at (suc (suc y)) p)) (at 1 (suc (suc i)))) + flag (get_or h.controller.stopped i false)
+            → suc (suc i) < n → (d : Node F R) → node_ended (get_or (world_next (node_step f) w (at (suc (suc y)) p)).nodes (suc (suc i)) d) ≡ true
+            → 1 ≤ weigh final (queue_at (world_next (node_step f) w (at (suc (suc y)) p)) (at 1 (suc (suc i)))) + flag (get_or h.controller.stopped i false)
         its_finals y takes leaves i low d over = split (suc (suc i) == suc (suc y))
-            (λ _. 1 ≤ weigh final (queue_at (world_next step w (at (suc (suc y)) p)) (at 1 (suc (suc i)))) + flag (get_or h.controller.stopped i false))
+            (λ _. 1 ≤ weigh final (queue_at (world_next (node_step f) w (at (suc (suc y)) p)) (at 1 (suc (suc i)))) + flag
+            (get_or h.controller.stopped i false))
             (λ on. own ((Decides-eqb (suc (suc i)) (suc (suc y))).0 on) (j.nodes.instance (suc (suc y))).ended refl)
             (λ off.
             (let apart : suc (suc i) ≢ suc (suc y) = grind (arith, nat_tests, off) in kept (sym (other_node (suc (suc y)) takes i d apart) ∙ over)))
           where
             -- where it had ended before
             kept : node_ended (get_or w.nodes (suc (suc i)) d) ≡ true
-                → 1 ≤ weigh final (queue_at (world_next step w (at (suc (suc y)) p)) (at 1 (suc (suc i)))) + flag (get_or h.controller.stopped i false)
+                → 1 ≤ weigh final (queue_at (world_next (node_step f) w (at (suc (suc y)) p)) (at 1 (suc (suc i)))) + flag (get_or h.controller.stopped i false)
             kept e =
                 let was = h.finals i low d e in
                 let more = link_keeps (suc (suc y)) takes final (suc (suc i)) 1 (grind (arith, nat_tests)) in
                 omega (arith, was, more)
 
             own : suc (suc i) ≡ suc (suc y) → (b : Bool) → (j.nodes.instance (suc (suc y))).ended ≡ b
-                → 1 ≤ weigh final (queue_at (world_next step w (at (suc (suc y)) p)) (at 1 (suc (suc i)))) + flag (get_or h.controller.stopped i false)
+                → 1 ≤ weigh final (queue_at (world_next (node_step f) w (at (suc (suc y)) p)) (at 1 (suc (suc i)))) + flag (get_or h.controller.stopped i false)
             own same true e = kept (ap (λ q. node_ended (get_or w.nodes q d)) same ∙ ap node_ended (j.nodes_are (suc (suc y)) takes.receiver d) ∙ e)
             own same false e =
                 let x = j.nodes.instance (suc (suc y)) in
                 let ends : over_by m false ≡ true = ap (over_by m) (sym e) ∙ sym leaves.ended
-                ∙ sym (ap (λ q. node_ended (get_or (world_next step w (at (suc (suc y)) p)).nodes q d)) same
-                ∙ ap node_ended ((taken_outcome step n w (suc (suc y)) p (node_of j.nodes (suc (suc y))) m rest takes).own d)) ∙ over in
+                ∙ sym (ap (λ q. node_ended (get_or (world_next (node_step f) w (at (suc (suc y)) p)).nodes q d)) same
+                ∙ ap node_ended ((taken_outcome (node_step f) n w (suc (suc y)) p (node_of j.nodes (suc (suc y))) m rest takes).own d)) ∙ over in
                 let sent = stop_sent y x takes.receiver (stop_over m ends) in
                 let is = link_is (suc (suc y)) takes final (suc (suc y)) 1 in
                 let none = none_lost (suc (suc y)) takes final (suc (suc y)) 1 (grind (arith, nat_tests)) in
-                subst (λ q. 1 ≤ weigh final (queue_at (world_next step w (at (suc (suc y)) p)) (at 1 q)) + flag (get_or h.controller.stopped i false))
+                subst (λ q. 1 ≤ weigh final (queue_at (world_next (node_step f) w (at (suc (suc y)) p)) (at 1 q)) + flag (get_or h.controller.stopped i false))
                 (sym same) (omega (arith, sent, is, none))
 
-    ending_after : (k : ℕ) (takes : Takes step n w k p (node_of j.nodes k) m rest) → Label f g p k m → HasEnough f n w
-        → HasEnding n (world_next step w (at k p))
+    ending_after : (k : ℕ) (takes : Takes (node_step f) n w k p (node_of j.nodes k) m rest) → Label f g p k m → HasEnough f n w
+        → HasEnding n (world_next (node_step f) w (at k p))
     ending_after zero takes label enough = at_switch takes label
     ending_after (suc zero) takes label enough = at_controller takes label
     ending_after (suc (suc y)) takes label enough = at_instance y takes label enough

@@ -91,12 +91,11 @@ module _ {M : Type 0} (f : ℕ → ℕ → M → ℕ) (n k : ℕ) where
   gains_more : (x : ℕ × M) (xs : List (ℕ × M)) (r : ℕ) → gains (x ∷ xs) k r ≡ first_gains x r + gains xs k r
   gains_more x xs r =
       let self : (k == k) ≡ true = grind (arith, nat_tests) in
-      rw self (elim (reaches n k r) as (λ b. weigh (f k r) (if b then (if x.0 == r then x.1 ∷ [] else []) ++ sent_for r xs else [])
-      ≡ (if b then (if x.0 == r then f k r x.1 else 0) else 0) + weigh (f k r) (if b then sent_for r xs else [])) [
-        | true ↦ elim (x.0 == r) as (λ b. weigh (f k r) ((if b then x.1 ∷ [] else []) ++ sent_for r xs)
-            ≡ (if b then f k r x.1 else 0) + weigh (f k r) (sent_for r xs)) [ true ↦ refl | false ↦ omega arith ]
-        | false ↦ refl
-      ])
+      rw self (split (reaches n k r)
+      (λ b. weigh (f k r) (if b then (if x.0 == r then x.1 ∷ [] else []) ++ sent_for r xs else []) ≡ (if b then (if x.0 == r then f k r x.1 else 0) else 0)
+      + weigh (f k r) (if b then sent_for r xs else []))
+      (λ _. elim (x.0 == r) as (λ b. weigh (f k r) ((if b then x.1 ∷ [] else []) ++ sent_for r xs)
+      ≡ (if b then f k r x.1 else 0) + weigh (f k r) (sent_for r xs)) [ true ↦ refl | false ↦ omega arith ]) (λ _. refl))
 
   first_sum : (x : ℕ × M) → upto (first_gains x) n ≡ (if reaches n k x.0 then f k x.0 x.1 else 0)
   first_sum x = split (reaches n k x.0) (λ b. upto (first_gains x) n ≡ (if b then f k x.0 x.1 else 0))

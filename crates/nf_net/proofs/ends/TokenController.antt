@@ -250,8 +250,8 @@ module _ (n : ℕ) (switch_there : reaches n 1 0 ≡ true) (c : ControllerState)
   controller_gives m k =
       let did = ctrl.row c p m in
       let own = row_gives m k in
-      elim (ctrl.may_finish did.node) as (λ b. Grants n k p m (finite.get c.operations k)
-      (finite.get (if b then record did.node { finish_sent = true } else did.node).operations k) (did.sends ++ (if b then (0, Msg.Finish) ∷ [] else []))) [
-        | true ↦ grants_more n k p m (finite.get c.operations k) (finite.get did.node.operations k) did.sends ((0, Msg.Finish) ∷ []) own
-        | false ↦ grants_more n k p m (finite.get c.operations k) (finite.get did.node.operations k) did.sends [] own
-      ]
+      split (ctrl.may_finish did.node)
+      (λ b. Grants n k p m (finite.get c.operations k) (finite.get (if b then record did.node { finish_sent = true } else did.node).operations k)
+      (did.sends ++ (if b then (0, Msg.Finish) ∷ [] else [])))
+      (λ _. grants_more n k p m (finite.get c.operations k) (finite.get did.node.operations k) did.sends ((0, Msg.Finish) ∷ []) own)
+      (λ _. grants_more n k p m (finite.get c.operations k) (finite.get did.node.operations k) did.sends [] own)

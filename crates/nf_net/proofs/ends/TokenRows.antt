@@ -132,11 +132,10 @@ module _ (n k p : ℕ) (plan : SharePlan) (own : plan.op ≡ k) (few : Each (λ 
   few_others : (one : ℕ) (members : List ℕ) → Each (λ member. reaches n 1 (instance_node member) ≡ true) members
       → Each (λ member. reaches n 1 (instance_node member) ≡ true) (others (record plan { members = members }) one)
   few_others one [] h = tt
-  few_others one (member ∷ members) h = elim (member == one) as (λ b. Each (λ x. reaches n 1 (instance_node x) ≡ true)
-      (if not b then member ∷ others (record plan { members = members }) one else others (record plan { members = members }) one)) [
-        | true ↦ few_others one members h.1
-        | false ↦ (h.0, few_others one members h.1)
-      ]
+  few_others one (member ∷ members) h = split (member == one)
+      (λ b. Each (λ x. reaches n 1 (instance_node x) ≡ true)
+      (if not b then member ∷ others (record plan { members = members }) one else others (record plan { members = members }) one))
+      (λ _. few_others one members h.1) (λ _. (h.0, few_others one members h.1))
 
   sync_all : (ph : SharePhase) → ((node : ℕ) → in_share plan Syncs ph node ≡ true) → (one : ℕ) (chunks : List Chunk)
       → sends_weigh (weight k (share_at ph)) n 1 (syncs plan one chunks) ≡ length (others plan one)

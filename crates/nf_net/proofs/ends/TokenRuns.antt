@@ -2,10 +2,10 @@
 use Rattle.nf_net.proofs.Words.{◌≡◌, ◌≢◌, ℕ, zero, suc, ◌+◌, ◌<◌, ◌≤◌, true, false, Option, Some, None, List, [], ◌∷◌, length, get_or, refl, sym, ap, ◌∙◌}
 use Rattle.nf_net.proofs.Words.{subst, arith, ◌&&◌, ◌==◌, nat_lt, Global, nat_cmp, nat_tests, Decides-ltb, Chunk, Fits, FunctionLaws, Semantics, IsTally, Msg}
 use Rattle.nf_net.proofs.Words.{Note, instance_node, CopyPhase, SharePhase, Operation, Move, Copy, Share, ControllerState, controller_step, opened_controller}
-use Rattle.nf_net.proofs.Words.{switch_step, instance_step, Choice, Network, Stepped, IsRun, reaches, run, world_next, queue_at, at, opening_on_links, Taking}
-use Rattle.nf_net.proofs.Words.{Takes, taken_outcome, OnLinks, EachSent, on_links_after, Each, each-append, each_map, Config, Node, Controller, IsInput}
-use Rattle.nf_net.proofs.Words.{node_step, node_ready, first_instance, first_instances, first_nodes, is_uncopied, TurnSo, Given, Label, Joined, node_of}
-use Rattle.nf_net.proofs.Words.{its_takes, its_label, Runs, given, all_fit, count_at_start, Instance, split}
+use Rattle.nf_net.proofs.Words.{switch_step, instance_step, Choice, Network, IsRun, reaches, run, world_next, queue_at, at, opening_on_links, Taking, Takes}
+use Rattle.nf_net.proofs.Words.{taken_outcome, OnLinks, EachSent, on_links_after, Each, each-append, each_map, Config, Node, Controller, IsInput, node_step}
+use Rattle.nf_net.proofs.Words.{node_ready, first_instance, first_instances, first_nodes, is_uncopied, TurnSo, Given, Label, Joined, node_of, its_takes}
+use Rattle.nf_net.proofs.Words.{its_label, Runs, given, all_fit, count_at_start, Instance, split}
 use Rattle.std.proofs.Common.{replicate, slice_index}
 use Rattle.std.specs.FinMap as finite
 use Rattle.std.proofs.lemmas.List.{length-replicate}
@@ -109,9 +109,6 @@ first_each P (x ∷ xs) some h = h.0
 
 module _ {F R : Type 0} (f : Semantics R) (laws : FunctionLaws f) (g : Given) (fitting : (number : ℕ) → Fits g.site (g.packet number)) (n : ℕ)
     (count_is : n ≡ count f g + 2) (w : Network (Node F R) Msg Note) (j : Joined f g n w) where
-  abbrev step : Node F R → ℕ → Msg → Stepped (Node F R) Msg Note
-  step = node_step f
-
   reach_at : (i : ℕ) → nat_lt i (count f g) ≡ true → reaches n 1 (instance_node i) ≡ true
   reach_at i h = let low = (Decides-ltb i (count f g)).0 h in grind (arith, nat_tests, low, count_is)
 
@@ -125,37 +122,38 @@ module _ {F R : Type 0} (f : Semantics R) (laws : FunctionLaws f) (g : Given) (f
   }
 
   module _ (p : ℕ) (m : Msg) (rest : List Msg) where
-    tally_at : (k i : ℕ) → i < n → (d : Node F R) → (takes : Takes step n w k p (node_of j.nodes k) m rest) → HasTally (step (node_of j.nodes k) p m).node
-        → HasEnough f n w → HasTally (get_or (world_next step w (at k p)).nodes i d)
+    tally_at : (k i : ℕ) → i < n → (d : Node F R) → (takes : Takes (node_step f) n w k p (node_of j.nodes k) m rest) → HasTally
+        (node_step f (node_of j.nodes k) p m).node
+        → HasEnough f n w → HasTally (get_or (world_next (node_step f) w (at k p)).nodes i d)
     tally_at k i low d takes tally h =
-        let left = taken_outcome step n w k p (node_of j.nodes k) m rest takes in
-        split (i == k) (λ _. HasTally (get_or (world_next step w (at k p)).nodes i d))
+        let left = taken_outcome (node_step f) n w k p (node_of j.nodes k) m rest takes in
+        split (i == k) (λ _. HasTally (get_or (world_next (node_step f) w (at k p)).nodes i d))
         (λ on. (let same : i ≡ k = grind (arith, nat_tests, on) in
-        subst (λ y. HasTally (get_or (world_next step w (at k p)).nodes y d)) (sym same) (subst HasTally (sym (left.own d)) tally)))
+        subst (λ y. HasTally (get_or (world_next (node_step f) w (at k p)).nodes y d)) (sym same) (subst HasTally (sym (left.own d)) tally)))
         (λ off. (let apart : i ≢ k = grind (arith, nat_tests, off) in subst HasTally (sym (left.others i d apart)) (h.tallies i low d)))
 
     -- where another node than the controller took the message, and passes it on
-    others_keep : (k : ℕ) → k ≢ 1 → (takes : Takes step n w k p (node_of j.nodes k) m rest)
-        → ((op : ℕ) (x : Option Operation) → weight op x p k m ≤ sends_weigh (weight op x) n k (step (node_of j.nodes k) p m).sends)
-        → EachSent (TallyLabel f) k (step (node_of j.nodes k) p m).sends → HasTally (step (node_of j.nodes k) p m).node → HasEnough f n w
-        → HasEnough f n (world_next step w (at k p))
+    others_keep : (k : ℕ) → k ≢ 1 → (takes : Takes (node_step f) n w k p (node_of j.nodes k) m rest)
+        → ((op : ℕ) (x : Option Operation) → weight op x p k m ≤ sends_weigh (weight op x) n k (node_step f (node_of j.nodes k) p m).sends)
+        → EachSent (TallyLabel f) k (node_step f (node_of j.nodes k) p m).sends → HasTally (node_step f (node_of j.nodes k) p m).node → HasEnough f n w
+        → HasEnough f n (world_next (node_step f) w (at k p))
     others_keep k other takes passes sent tally h =
-        let left = taken_outcome step n w k p (node_of j.nodes k) m rest takes in
+        let left = taken_outcome (node_step f) n w k p (node_of j.nodes k) m rest takes in
         record {
           controller = h.controller;
           controller_is = λ d. left.others 1 d (λ e. other (sym e)) ∙ h.controller_is d;
           enough = λ op.
               let x = finite.get h.controller.operations op in
-              let law = at_links_after step n w k p (node_of j.nodes k) m rest takes (weight op x) in
+              let law = at_links_after (node_step f) n w k p (node_of j.nodes k) m rest takes (weight op x) in
               let goes = passes op x in
               let was = h.enough op in
               omega (arith, law, goes, was);
-          way = on_links_after (TallyLabel f) step n w k p (node_of j.nodes k) m rest takes h.way sent;
+          way = on_links_after (TallyLabel f) (node_step f) n w k p (node_of j.nodes k) m rest takes h.way sent;
           tallies = λ i low d. tally_at k i low d takes tally h;
         }
 
     -- the label of what is taken
-    tally_label : (k : ℕ) (takes : Takes step n w k p (node_of j.nodes k) m rest) → HasEnough f n w → TallyLabel f p k m
+    tally_label : (k : ℕ) (takes : Takes (node_step f) n w k p (node_of j.nodes k) m rest) → HasEnough f n w → TallyLabel f p k m
     tally_label k takes h = (subst (λ ms. weights.Each (TallyLabel f p k) ms) takes.waits
         (h.way p k (let c = takes.count in rw c takes.sender) (let c = takes.count in rw c takes.receiver))).0
 
@@ -170,22 +168,22 @@ module _ {F R : Type 0} (f : Semantics R) (laws : FunctionLaws f) (g : Given) (f
     reads_it (Msg.PutAll op chunk) h = (h.slots, reads f chunk h)
     reads_it x h = tt
 
-    -- what an instance's step leaves
-    pub its_leaves : (i : ℕ) → Takes step n w (suc (suc i)) p (node_of j.nodes (suc (suc i))) m rest → Label f g p (suc (suc i)) m → HasEnough f n w
+    -- what an instance's (node_step f) leaves
+    pub its_leaves : (i : ℕ) → Takes (node_step f) n w (suc (suc i)) p (node_of j.nodes (suc (suc i))) m rest → Label f g p (suc (suc i)) m → HasEnough f n w
         → StepLeaves f (over_by m (j.nodes.instance (suc (suc i))).ended) (instance_step f (j.nodes.instance (suc (suc i))) m)
     its_leaves i takes label h = instance_leaves f (j.nodes.instance (suc (suc i))) m (subst HasTally
         (j.nodes_are (suc (suc i)) takes.receiver (node_of j.nodes (suc (suc i)))) (h.tallies (suc (suc i)) takes.receiver (node_of j.nodes (suc (suc i)))))
         (can_read i label (tally_label (suc (suc i)) takes h))
 
-    enough_after : (k : ℕ) (takes : Takes step n w k p (node_of j.nodes k) m rest) → Label f g p k m → HasEnough f n w
-        → HasEnough f n (world_next step w (at k p))
+    enough_after : (k : ℕ) (takes : Takes (node_step f) n w k p (node_of j.nodes k) m rest) → Label f g p k m → HasEnough f n w
+        → HasEnough f n (world_next (node_step f) w (at k p))
     enough_after zero takes label h =
         let passes = switch_passes f g n count_is j.nodes.switch j.shown_is.switch.instances p m label in
         others_keep 0 (λ e. cc) takes (λ op x. passes_weigh op x n 0 (token_of p 0 m) (switch_step j.nodes.switch m).sends passes)
         (switch_sent f (switch_step j.nodes.switch m).sends) tt h
     enough_after (suc zero) takes label h =
         let c = j.nodes.controller in
-        let left = taken_outcome step n w 1 p (node_of j.nodes 1) m rest takes in
+        let left = taken_outcome (node_step f) n w 1 p (node_of j.nodes 1) m rest takes in
         let same : h.controller ≡ c = own_controller j takes.receiver h.controller h.controller_is in
         let some = takes.some in
         let there : reaches n 1 0 ≡ true = grind (arith, nat_tests, some) in
@@ -199,11 +197,12 @@ module _ {F R : Type 0} (f : Semantics R) (laws : FunctionLaws f) (g : Given) (f
               let was : wanted before ≤ at_links (weight op before) n w =
               subst (λ y. wanted (finite.get y.operations op) ≤ at_links (weight op (finite.get y.operations op)) n w) same (h.enough op) in
               grants_keep n op p m before after (controller_step c p m).sends (controller_gives n there c names within p m op)
-              (at_links (weight op after) n w) (at_links (weight op after) n (world_next step w (at 1 p))) (weight op after p 1 m) refl
-              (at_links_after step n w 1 p (node_of j.nodes 1) m rest takes (weight op after))
-              (taken_least step n w 1 p (node_of j.nodes 1) m rest takes (weight op after)) (at_links (weight op before) n w)
+              (at_links (weight op after) n w) (at_links (weight op after) n (world_next (node_step f) w (at 1 p))) (weight op after p 1 m) refl
+              (at_links_after (node_step f) n w 1 p (node_of j.nodes 1) m rest takes (weight op after))
+              (taken_least (node_step f) n w 1 p (node_of j.nodes 1) m rest takes (weight op after)) (at_links (weight op before) n w)
               (λ alike. at_links_same (weight op after) (weight op before) n w (λ s r x. counts_same op before after alike (token_of s r x))) was;
-          way = on_links_after (TallyLabel f) step n w 1 p (node_of j.nodes 1) m rest takes h.way (tallies_sent f g c p m label (tally_label 1 takes h));
+          way = on_links_after (TallyLabel f) (node_step f) n w 1 p (node_of j.nodes 1) m rest takes h.way
+              (tallies_sent f g c p m label (tally_label 1 takes h));
           tallies = λ i low d. tally_at 1 i low d takes tt h;
         }
     enough_after (suc (suc i)) takes label h =

@@ -29,11 +29,10 @@ module _ (op : ℕ) where
   rule_weighs : (rs : List (Rule FullCell)) (filter : Filter) (action : Action) → of_rules (rules.with_rule rs op filter action) ≤ of_rules rs
   rule_weighs rs filter action =
       let new : Rule FullCell = record { op = op; filter = filter; action = action; held = [] } in
-      elim (is_some (rules.rule_at rs op))
-      as (λ b. of_rules (if b then rules.with_change rs op (rules.with_rule_of filter action) else rs ++ new ∷ []) ≤ of_rules rs) [
-        | true ↦ let same = ruled_weigh filter action rs in omega (arith, same)
-        | false ↦ let both = weigh-append (λ (r : Rule FullCell). length r.held) rs (new ∷ []) in omega (arith, both)
-      ]
+      split (is_some (rules.rule_at rs op))
+      (λ b. of_rules (if b then rules.with_change rs op (rules.with_rule_of filter action) else rs ++ new ∷ []) ≤ of_rules rs)
+      (λ _. let same = ruled_weigh filter action rs in omega (arith, same))
+      (λ _. let both = weigh-append (λ (r : Rule FullCell). length r.held) rs (new ∷ []) in omega (arith, both))
 
   -- of other operations nothing is held in addition
   others_weigh : (cell : FullCell) (rs : List (Rule FullCell)) → AllByRecursion (λ k. nat_eq op k ≡ false) (map (λ (r : Rule FullCell). r.op) rs)
@@ -70,11 +69,9 @@ module _ (op : ℕ) where
   without_weighs : (rs : List (Rule FullCell)) → of_rules (rules.without_rule rs op) + length (rules.held_at rs op) ≤ of_rules rs
   without_weighs [] = omega arith
   without_weighs (r ∷ rs) =
-      elim (r.op == op) as (λ b. of_rules (if not b then r ∷ rules.without_rule rs op else rules.without_rule rs op)
-      + length (option_map_or (λ (x : Rule FullCell). x.held) (if b then Some r else rules.rule_at rs op) []) ≤ length r.held + of_rules rs) [
-        | true ↦ let rest = without_less rs in omega (arith, rest)
-        | false ↦ let rest = without_weighs rs in omega (arith, rest)
-      ]
+      split (r.op == op) (λ b. of_rules (if not b then r ∷ rules.without_rule rs op else rules.without_rule rs op) + length
+      (option_map_or (λ (x : Rule FullCell). x.held) (if b then Some r else rules.rule_at rs op) []) ≤ length r.held + of_rules rs)
+      (λ _. let rest = without_less rs in omega (arith, rest)) (λ _. let rest = without_weighs rs in omega (arith, rest))
 
 -- The pieces of a stream
 module _ (o op : ℕ) where
@@ -83,13 +80,13 @@ module _ (o op : ℕ) where
   unfolding pieces_from
   cut_costs whole zero chunks = omega arith
   cut_costs whole (suc n) chunks =
-      elim (nat_le (length chunks) 64) as (λ b. cost o (to_controller (map (Msg.Piece op)
-      (if b then piece_of whole true chunks ∷ [] else piece_of whole false (take 64 chunks) ∷ pieces_from whole n (drop 64 chunks))))
-      ≤ 1 + 4 * pieces_among (to_controller (map (Msg.Piece op)
-      (if b then piece_of whole true chunks ∷ [] else piece_of whole false (take 64 chunks) ∷ pieces_from whole n (drop 64 chunks))))) [
-        | true ↦ omega arith
-        | false ↦ let rest = cut_costs whole n (drop 64 chunks) in omega (arith, rest)
-      ]
+      split (nat_le (length chunks) 64)
+      (λ b. cost o (to_controller
+      (map (Msg.Piece op) (if b then piece_of whole true chunks ∷ [] else piece_of whole false (take 64 chunks) ∷ pieces_from whole n
+      (drop 64 chunks)))) ≤ 1 + 4 * pieces_among
+      (to_controller (map (Msg.Piece op)
+      (if b then piece_of whole true chunks ∷ [] else piece_of whole false (take 64 chunks) ∷ pieces_from whole n (drop 64 chunks)))))
+      (λ _. omega arith) (λ _. let rest = cut_costs whole n (drop 64 chunks) in omega (arith, rest))
 
 -- what a share is told
 chunk_costs : (o op : ℕ) (x : Option Chunk) → cost o (to_controller (chunk_told op x)) ≤ 1 + 2 * o

@@ -18,10 +18,8 @@ use Rattle.proof_outlines.proofs.joined.RunsJoined.{once}
 found_key : {R : Type 0} (q : Unit) (es : List (Unit × R)) → is_member same_unit (keys_of es) q ≡ true → find unit_cmp q es ≡ None → ⊥
 found_key q [] h none = cc
 found_key q (e ∷ es) h none =
-    elim (same_unit q e.0) as (λ b. b || is_member same_unit (keys_of es) q ≡ true → cond b (Some e.1) (find unit_cmp q es) ≡ None → ⊥) [
-      | true ↦ λ _ never. cc
-      | false ↦ λ more rest. found_key q es more rest
-    ] h none
+    split (same_unit q e.0) (λ b. b || is_member same_unit (keys_of es) q ≡ true → cond b (Some e.1) (find unit_cmp q es) ≡ None → ⊥) (λ _ _ never. cc)
+    (λ _ more rest. found_key q es more rest) h none
 
 -- of a unit that isn't among the packets' units there is no packet
 none_of : (unit : ℕ → Unit) (q : Unit) (ps : List ℕ) → is_member same_unit (map unit ps) q ≡ false → filter (λ p. same_unit (unit p) q) ps ≡ []

@@ -1,7 +1,7 @@
 -- What the values of a finite map weigh together, and how that changes as an entry is written or taken away.
 use Rattle.nf_net.proofs.Words.{◌≡◌, ℕ, ◌+◌, ◌≤◌, Bool, true, false, cond, Option, Some, None, List, [], ◌∷◌, length, refl, sym, ap, subst, ◌∙◌, arith, T, not}
 use Rattle.nf_net.proofs.Words.{nat_cmp, eq_by_cmp, is_lt, is_eq, Ordering, Less, Equal, Greater, is_sorted, entries_sorted, get-entries, get-remove}
-use Rattle.nf_net.proofs.Words.{len-entries, below_all, and_yes, weigh}
+use Rattle.nf_net.proofs.Words.{len-entries, below_all, and_yes, weigh, split}
 use Rattle.std.specs.Cmp.{nat_cmp_total}
 use Rattle.std.specs.FinMap as finite
 use Rattle.std.specs.FinMap.{find, put, same_map, nat_cmp-IsAntisymmetric, entries-insert, entries-from_sorted, get-from_sorted, len-empty}
@@ -63,10 +63,9 @@ module _ {X : Type 0} (w : X → ℕ) where
   without_weighs k [] = omega arith
   without_weighs k (e ∷ es) =
       let left = where_key nat_cmp (λ x. not (eq_by_cmp nat_cmp k x)) es in
-      elim (eq_by_cmp nat_cmp k e.0) as (λ b. all (cond (not b) (e ∷ left) left) + if_found (cond b (Some e.1) (find nat_cmp k es)) ≤ w e.1 + all es) [
-        | true ↦ let rest = where_weighs (λ x. not (eq_by_cmp nat_cmp k x)) es in omega (arith, rest)
-        | false ↦ let rest = without_weighs k es in omega (arith, rest)
-      ]
+      split (eq_by_cmp nat_cmp k e.0) (λ b. all (cond (not b) (e ∷ left) left) + if_found (cond b (Some e.1) (find nat_cmp k es)) ≤ w e.1 + all es)
+      (λ _. let rest = where_weighs (λ x. not (eq_by_cmp nat_cmp k x)) es in omega (arith, rest))
+      (λ _. let rest = without_weighs k es in omega (arith, rest))
 
   -- an entry that is written weighs what its new value does
   pub insert_weighs : (m : finite.FinMap nat_cmp X) (k : ℕ) (v : X) → in_all (finite.insert m k v) + if_found (finite.get m k) ≤ in_all m + w v

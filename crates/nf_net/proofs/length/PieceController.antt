@@ -1,7 +1,7 @@
 -- What the controller sends and keeps as it takes a message weighs no more than the message and what it kept before: each move asks its source once.
-use Rattle.nf_net.proofs.Words.{◌≡◌, ℕ, ◌+◌, ◌≤◌, true, false, Option, None, Some, List, [], ◌∷◌, ◌++◌, refl, arith, if◌then◌else◌, stored_of, with_parcels}
+use Rattle.nf_net.proofs.Words.{◌≡◌, ℕ, ◌+◌, ◌≤◌, true, Option, None, Some, List, [], ◌∷◌, ◌++◌, refl, arith, if◌then◌else◌, stored_of, with_parcels}
 use Rattle.nf_net.proofs.Words.{store_after, FullCell, Answer, Command, Msg, switch_node, Store, row_in, answer_of, Operation, Move, Copy, Share, turn_of}
-use Rattle.nf_net.proofs.Words.{serving_of, ControllerState, controller_step, weigh}
+use Rattle.nf_net.proofs.Words.{serving_of, ControllerState, controller_step, weigh, split}
 use Rattle.std.specs.FinMap as finite
 use Rattle.copy_share.specs.Copy as copy
 use Rattle.copy_share.specs.Share as share
@@ -77,11 +77,11 @@ module _ (a k : ℕ) where
       → uses a k (ctrl.step_and_finish step) + of_controller a k (ctrl.step_and_finish step).node ≡ uses a k step + of_controller a k step.node
   finish_costs step =
       let s = step.node in
-      elim (ctrl.may_finish s) as (λ b. spent a k (step.sends ++ (if b then (switch_node, Msg.Finish) ∷ [] else [])) + weigh (arrival a k) step.notes
-      + of_controller a k (if b then record s { finish_sent = true } else s) ≡ uses a k step + of_controller a k s) [
-        | true ↦ let both = spent-append a k step.sends ((switch_node, Msg.Finish) ∷ []) in omega (arith, both)
-        | false ↦ let both = spent-append a k step.sends [] in omega (arith, both)
-      ]
+      split (ctrl.may_finish s)
+      (λ b. spent a k (step.sends ++ (if b then (switch_node, Msg.Finish) ∷ [] else [])) + weigh (arrival a k) step.notes + of_controller a k
+      (if b then record s { finish_sent = true } else s) ≡ uses a k step + of_controller a k s)
+      (λ _. let both = spent-append a k step.sends ((switch_node, Msg.Finish) ∷ []) in omega (arith, both))
+      (λ _. let both = spent-append a k step.sends [] in omega (arith, both))
 
   module _ (c : ControllerState) where
     handed_falls : (op port : ℕ) (m : Msg) → UsesNoMore c m (ctrl.hand_step c op port m)

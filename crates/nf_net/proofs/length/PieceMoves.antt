@@ -2,7 +2,7 @@
 use Rattle.nf_net.proofs.Words.{◌≡◌, ℕ, ◌+◌, ◌≤◌, true, false, Some, List, [], ◌∷◌, ◌++◌, map, length, arith, if◌then◌else◌, ◌-◌, ◌==◌, Chunk, FullCell, Piece}
 use Rattle.nf_net.proofs.Words.{Msg, switch_node, instance_node, Phase, Put, Release, Give_back, MovePlan, MoveRow, messages_of, put_to, forward_to, CopyPhase}
 use Rattle.nf_net.proofs.Words.{SharePhase, CopyPlan, CopyRow, SharePlan, ShareRow, home, others, syncs, setting, syncing, on_fenced, on_chunks, on_shared}
-use Rattle.nf_net.proofs.Words.{on_synced, service_if_idle, Done}
+use Rattle.nf_net.proofs.Words.{on_synced, service_if_idle, Done, split}
 use Rattle.switch_rules.specs.declared.target.Target.TheVariants.{Instance}
 use Rattle.move_op.specs.Table.{Said, Stream}
 use Rattle.move_op.specs.Move.{row}
@@ -68,12 +68,12 @@ module _ (a k : ℕ) (plan : CopyPlan) where
 
   pub copy_none : (ph : CopyPhase) (port : ℕ) (m : Msg) → CopyNone (copy.row (record { plan = plan; phase = ph }) port m)
   copy_none ph port m =
-      elim (port == instance_node plan.from) as (λ x.
-      CopyNone (if x then copy.from_source plan ph m else if port == instance_node plan.to then copy.from_destination plan ph m else copy.next_phase ph [])) [
-        | true ↦ copy_source_none ph m
-        | false ↦ elim (port == instance_node plan.to) as (λ b. CopyNone (if b then copy.from_destination plan ph m else copy.next_phase ph []))
-            [ true ↦ copy_destination_none ph m | false ↦ omega arith ]
-      ]
+      split (port == instance_node plan.from)
+      (λ x. CopyNone (if x then copy.from_source plan ph m else if port == instance_node plan.to then copy.from_destination plan ph m
+      else copy.next_phase ph []))
+      (λ _. copy_source_none ph m)
+      (λ _. elim (port == instance_node plan.to) as (λ b. CopyNone (if b then copy.from_destination plan ph m else copy.next_phase ph []))
+      [ true ↦ copy_destination_none ph m | false ↦ omega arith ])
 
 -- The rows of a share.
 module _ (a k : ℕ) (plan : SharePlan) where
@@ -103,11 +103,9 @@ module _ (a k : ℕ) (plan : SharePlan) where
   chunks_none ph chunks = omega arith
 
   shared_none : (ph : SharePhase) (port : ℕ) (chunk : Chunk) → ShareNone (on_shared plan ph port chunk)
-  shared_none (SharePhase.Out member) port chunk = elim (port == instance_node member)
-      as (λ b. ShareNone (if b then syncing (length (others plan member)) (syncs plan member (chunk ∷ [])) else share.next_phase (SharePhase.Out member) [])) [
-        | true ↦ syncs_none member (chunk ∷ [])
-        | false ↦ omega arith
-      ]
+  shared_none (SharePhase.Out member) port chunk = split (port == instance_node member)
+      (λ b. ShareNone (if b then syncing (length (others plan member)) (syncs plan member (chunk ∷ [])) else share.next_phase (SharePhase.Out member) []))
+      (λ _. syncs_none member (chunk ∷ [])) (λ _. omega arith)
   shared_none ph port chunk = omega arith
 
   synced_none : (ph : SharePhase) → ShareNone (on_synced ph)

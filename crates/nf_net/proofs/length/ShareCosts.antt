@@ -1,7 +1,7 @@
 -- What a copy's row and a share's row send and leave to do weighs less than the message that they take and what there was to do.
 use Rattle.nf_net.proofs.Words.{◌≡◌, ℕ, ◌+◌, ◌*◌, ◌≤◌, true, false, Some, List, [], ◌∷◌, map, length, refl, arith, if◌then◌else◌, ◌-◌, ◌==◌, is_some, unwrap_or}
 use Rattle.nf_net.proofs.Words.{Chunk, FullCell, Msg, instance_node, CopyPhase, SharePhase, CopyPlan, CopyRow, SharePlan, ShareRow, home, others, syncs}
-use Rattle.nf_net.proofs.Words.{syncing, on_fenced, on_chunks, on_shared, on_synced, service_if_idle, Done}
+use Rattle.nf_net.proofs.Words.{syncing, on_fenced, on_chunks, on_shared, on_synced, service_if_idle, Done, split}
 use Rattle.copy_share.specs.Copy as copy
 use Rattle.copy_share.specs.Share as share
 use Rattle.nf_net.proofs.length.Weights.{one_if, of_copy, of_share, kept, weight, some, cost}
@@ -26,12 +26,12 @@ module _ (o : ℕ) (plan : CopyPlan) where
   -- each row of a copy
   pub copy_falls : (ph : CopyPhase) (port : ℕ) (m : Msg) → CopyFalls ph m (copy.row (record { plan = plan; phase = ph }) port m)
   copy_falls ph port m =
-      elim (port == instance_node plan.from) as (λ a. CopyFalls ph m
-      (if a then copy.from_source plan ph m else if port == instance_node plan.to then copy.from_destination plan ph m else copy.next_phase ph [])) [
-        | true ↦ copy_source_falls ph m
-        | false ↦ elim (port == instance_node plan.to) as (λ b. CopyFalls ph m (if b then copy.from_destination plan ph m else copy.next_phase ph []))
-            [ true ↦ copy_destination_falls ph m | false ↦ copy_stays ph m ]
-      ]
+      split (port == instance_node plan.from)
+      (λ a. CopyFalls ph m (if a then copy.from_source plan ph m else if port == instance_node plan.to then copy.from_destination plan ph m
+      else copy.next_phase ph []))
+      (λ _. copy_source_falls ph m)
+      (λ _. elim (port == instance_node plan.to) as (λ b. CopyFalls ph m (if b then copy.from_destination plan ph m else copy.next_phase ph []))
+      [ true ↦ copy_destination_falls ph m | false ↦ copy_stays ph m ])
 
 -- The rows of a share, whose members but for the home, or for the one that has the packet, are few.
 module _ (o : ℕ) (plan : SharePlan) where
@@ -58,12 +58,11 @@ module _ (o : ℕ) (plan : SharePlan) where
   chunks_falls few SharePhase.Getting op chunks =
       let sends = syncs plan (home plan) chunks in
       let all = sync_costs (home plan) chunks in
-      elim (length (others plan (home plan)) == 0)
-      as (λ b. ShareFalls SharePhase.Getting (Msg.Chunks op chunks) (if b then record { phase = SharePhase.Idle; sends = sends; answer = Some Done }
-      else share.next_phase (SharePhase.Setting (length (others plan (home plan)))) sends)) [
-        | true ↦ omega (arith, all, few)
-        | false ↦ omega (arith, all, few)
-      ]
+      split (length (others plan (home plan)) == 0)
+      (λ b. ShareFalls SharePhase.Getting (Msg.Chunks op chunks)
+      (if b then record { phase = SharePhase.Idle; sends = sends; answer = Some Done } else share.next_phase
+      (SharePhase.Setting (length (others plan (home plan)))) sends))
+      (λ _. omega (arith, all, few)) (λ _. omega (arith, all, few))
   chunks_falls few ph op chunks = omega arith
 
   shared_falls : (ph : SharePhase) → ((member : ℕ) → ph ≡ SharePhase.Out member → length (others plan member) ≤ o) → (port op : ℕ) (chunk : Chunk)
@@ -72,13 +71,12 @@ module _ (o : ℕ) (plan : SharePlan) where
       let less = few member refl in
       let sends = syncs plan member (chunk ∷ []) in
       let all = sync_costs member (chunk ∷ []) in
-      elim (port == instance_node member) as (λ b. ShareFalls (SharePhase.Out member) (Msg.Shared op chunk)
-      (if b then syncing (length (others plan member)) sends else share.next_phase (SharePhase.Out member) [])) [
-        | true ↦ elim (length (others plan member) == 0)
-            as (λ b. cost o sends + of_share o (if b then SharePhase.Idle else SharePhase.Syncing (length (others plan member))) + 0 + 1 ≤ 0 + (1 + 2 * o))
-            [ true ↦ omega (arith, all, less) | false ↦ omega (arith, all, less) ]
-        | false ↦ omega arith
-      ]
+      split (port == instance_node member)
+      (λ b. ShareFalls (SharePhase.Out member) (Msg.Shared op chunk)
+      (if b then syncing (length (others plan member)) sends else share.next_phase (SharePhase.Out member) []))
+      (λ _. elim (length (others plan member) == 0)
+      as (λ b. cost o sends + of_share o (if b then SharePhase.Idle else SharePhase.Syncing (length (others plan member))) + 0 + 1 ≤ 0 + (1 + 2 * o))
+      [ true ↦ omega (arith, all, less) | false ↦ omega (arith, all, less) ]) (λ _. omega arith)
   shared_falls ph few port op chunk = omega arith
 
   synced_falls : (ph : SharePhase) (op : ℕ) → ShareFalls ph (Msg.Synced op) (on_synced ph)

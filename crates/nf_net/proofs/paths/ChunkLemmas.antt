@@ -38,11 +38,9 @@ module _ {R : Type 0} (f : Semantics R) (u : Unit) where
     none_spelled : (cs : List Chunk) → Each (IsChunk f p) cs → times u (entries f cs) ≡ 0 → spelled_of f u cs ≡ []
     none_spelled [] h none = refl
     none_spelled (c ∷ cs) h none =
-        spelled_more c cs h.0 ∙ elim (same_unit u h.0.entry.0) as (λ b. (if b then 1 else 0) + times u (entries f cs) ≡ 0
-        → map (spelled f) (cond b (c ∷ filter (is_chunk_of u) cs) (filter (is_chunk_of u) cs)) ≡ []) [
-          | true ↦ λ e. absurd (omega (arith, e))
-          | false ↦ λ e. none_spelled cs h.1 (omega (arith, e))
-        ] (ap (times u) (sym (entries_more c cs h.0)) ∙ none)
+        spelled_more c cs h.0 ∙ split (same_unit u h.0.entry.0)
+        (λ b. (if b then 1 else 0) + times u (entries f cs) ≡ 0 → map (spelled f) (cond b (c ∷ filter (is_chunk_of u) cs) (filter (is_chunk_of u) cs)) ≡ [])
+        (λ _ e. absurd (omega (arith, e))) (λ _ e. none_spelled cs h.1 (omega (arith, e))) (ap (times u) (sym (entries_more c cs h.0)) ∙ none)
 
     one_spelled : (cs : List Chunk) → Each (IsChunk f p) cs → times u (entries f cs) ≤ 1
         → spelled_of f u cs ≡ as_spelled u (option_to_list (record_at u (entries f cs)))

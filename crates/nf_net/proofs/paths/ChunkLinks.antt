@@ -4,7 +4,7 @@ use Rattle.nf_net.proofs.Words.{◌||◌, is_some, option_map, option_to_list, c
 use Rattle.nf_net.proofs.Words.{same_unit, is_among, spelled, Command, Order, Msg, At_a, At_b, Carry, Event, Fence_to, Install, Stray, records_on, record_at}
 use Rattle.nf_net.proofs.Words.{M_stream, M_fenced, M_install, M_fence_to, Frame, where_true, sends_to, add, Mv, seen, MoveAsked, Seeing, frame, Any, New}
 use Rattle.nf_net.proofs.Words.{WantShare, S_asked, S_shared, olds, OpenShare, chunks_in, given_in, removed_by, spelled_of, want_of, asked_of, want_share_of}
-use Rattle.nf_net.proofs.Words.{Given, place, S, shown, Label, FromController, ToController, Unit, Mark, Target}
+use Rattle.nf_net.proofs.Words.{Given, place, S, shown, Label, FromController, ToController, Unit, Mark, Target, split}
 use Rattle.actor_net.proofs.WeightLaws.{Each}
 use Rattle.proof_machines.proofs.unit.Machine.{Where, Item, Pass, Fence, Enable, Stream, Delete, Put, Restore, Enabled, Piece, Deleted, Put_ok, Put_no}
 use Rattle.proof_machines.proofs.unit.Machine.{Restored, Fenced, Forward}
@@ -60,10 +60,8 @@ module _ {R : Type 0} where
   bare b x none = by_test b x nothing none (λ _. refl)
 
   sent_bare : (v : Frame) (to : ℕ) (item : Where → Item R) → ((w : Where) → read (item w ∷ []) ≡ nothing) → read (sends_to v to item ∷ []) ≡ nothing
-  sent_bare v to item none = elim (to == v.from) as (λ a. read ((if a then item At_a else if to == v.to then item At_b else Stray) ∷ []) ≡ nothing) [
-    | true ↦ none At_a
-    | false ↦ elim (to == v.to) as (λ b. read ((if b then item At_b else Stray) ∷ []) ≡ nothing) [ true ↦ none At_b | false ↦ refl ]
-  ]
+  sent_bare v to item none = split (to == v.from) (λ a. read ((if a then item At_a else if to == v.to then item At_b else Stray) ∷ []) ≡ nothing)
+      (λ _. none At_a) (λ _. elim (to == v.to) as (λ b. read ((if b then item At_b else Stray) ∷ []) ≡ nothing) [ true ↦ none At_b | false ↦ refl ])
 
 module _ {R : Type 0} (f : Semantics R) (g : Given) (z : Seeing) (es : List OpenShare) where
   abbrev its : Frame

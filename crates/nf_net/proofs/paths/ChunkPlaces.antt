@@ -104,24 +104,21 @@ module _ {F R : Type 0} (here : Reached F R) (u : Unit) (apart : IsApart here u)
     to_controller s two =
         let s0 : (s == 0) ≡ false = grind (arith, nat_tests, two) in
         let s1 : (s == 1) ≡ false = grind (arith, nat_tests, two) in
-        rw (s0, s1) (elim (s == a) as (λ t. records_on (if t then x.ac else if s == b then x.bc else if s == third then x.cc else [])
-        ≡ (if t then records_on x.ac else if s == b then records_on x.bc else [])) [
-          | true ↦ refl
-          | false ↦ elim (s == b) as (λ t. records_on (if t then x.bc else if s == third then x.cc else []) ≡ (if t then records_on x.bc else [])) [
-            | true ↦ refl
-            | false ↦ elim (s == third) as (λ t. records_on (if t then x.cc else []) ≡ []) [ true ↦ ap records_on silent | false ↦ refl ]
-          ]
-        ])
+        rw (s0, s1) (split (s == a)
+        (λ t. records_on (if t then x.ac else if s == b then x.bc else if s == third then x.cc else []) ≡
+        (if t then records_on x.ac else if s == b then records_on x.bc else []))
+        (λ _. refl)
+        (λ _. split (s == b) (λ t. records_on (if t then x.bc else if s == third then x.cc else []) ≡ (if t then records_on x.bc else [])) (λ _. refl)
+        (λ _. elim (s == third) as (λ t. records_on (if t then x.cc else []) ≡ []) [ true ↦ ap records_on silent | false ↦ refl ])))
 
     from_controller : (r : ℕ) → 2 ≤ r → records_on (expect a b third x 1 r) ≡ at 1 r
     from_controller r two =
         let r0 : (r == 0) ≡ false = grind (arith, nat_tests, two) in
         let r1 : (r == 1) ≡ false = grind (arith, nat_tests, two) in
-        rw (r0, r1) (elim (r == a)
-        as (λ t. records_on (if t then x.ca else if r == b then x.cb else []) ≡ (if t then records_on x.ca else if r == b then records_on x.cb else [])) [
-          | true ↦ refl
-          | false ↦ elim (r == b) as (λ t. records_on (if t then x.cb else []) ≡ (if t then records_on x.cb else [])) [ true ↦ refl | false ↦ refl ]
-        ])
+        rw (r0, r1) (split (r == a)
+        (λ t. records_on (if t then x.ca else if r == b then x.cb else []) ≡ (if t then records_on x.ca else if r == b then records_on x.cb else []))
+        (λ _. refl)
+        (λ _. elim (r == b) as (λ t. records_on (if t then x.cb else []) ≡ (if t then records_on x.cb else [])) [ true ↦ refl | false ↦ refl ]))
 
     -- low nodes are no sides
     low_out : (s : ℕ) → s < 2 → ((s == a) ≡ false) × ((s == b) ≡ false)

@@ -74,14 +74,14 @@ module _ {R : Type 0} (f : Semantics R) (g : Given) (z : Seeing) (es : List Open
       → IsRead (Msg.Forward to m cell) (where_true (mine (number cell)) (sends_to its (instance_node to) (λ w. Forward w (number cell))))
   forward_read to m cell =
       split (mine (number cell)) (λ b. IsRead (Msg.Forward to m cell) (where_true b (sends_to its (instance_node to) (λ w. Forward w (number cell)))))
-      (λ is. elim (instance_node to == its.from) as (λ a. IsRead (Msg.Forward to m cell)
-      (Some (if a then Forward At_a (number cell) else if instance_node to == its.to then Forward At_b (number cell) else Stray))) [
-        | true ↦ record { pass = refl; carry = refl; event = refl; forward = λ _. rw is refl }
-        | false ↦ elim (instance_node to == its.to) as (λ b. IsRead (Msg.Forward to m cell) (Some (if b then Forward At_b (number cell) else Stray))) [
-          | true ↦ record { pass = refl; carry = refl; event = refl; forward = λ _. rw is refl }
-          | false ↦ record { pass = refl; carry = refl; event = refl; forward = λ e. cc }
-        ]
-      ]) (λ off. record { pass = refl; carry = refl; event = refl; forward = λ _. rw off refl })
+      (λ is. split (instance_node to == its.from)
+      (λ a. IsRead (Msg.Forward to m cell)
+      (Some (if a then Forward At_a (number cell) else if instance_node to == its.to then Forward At_b (number cell) else Stray)))
+      (λ _. record { pass = refl; carry = refl; event = refl; forward = λ _. rw is refl })
+      (λ _. split (instance_node to == its.to) (λ b. IsRead (Msg.Forward to m cell) (Some (if b then Forward At_b (number cell) else Stray)))
+      (λ _. record { pass = refl; carry = refl; event = refl; forward = λ _. rw is refl })
+      (λ _. record { pass = refl; carry = refl; event = refl; forward = λ e. cc })))
+      (λ off. record { pass = refl; carry = refl; event = refl; forward = λ _. rw off refl })
 
   carry_read : (cell : FullCell) → IsRead (Msg.Carry Mark.Plain cell) (where_true (mine (number cell)) (Carry (number cell)))
   carry_read cell = split (mine (number cell)) (λ b. IsRead (Msg.Carry Mark.Plain cell) (where_true b (Carry (number cell))))
@@ -99,14 +99,12 @@ module _ {R : Type 0} (f : Semantics R) (g : Given) (z : Seeing) (es : List Open
       (λ off. record { pass = refl; carry = refl; event = rw off refl; forward = λ _. refl })
 
   fence_read : (op to : ℕ) → IsRead (Msg.FenceTo op to) (Some (sends_to its (instance_node to) (λ w. Fence_to w)))
-  fence_read op to = elim (instance_node to == its.from)
-      as (λ a. IsRead (Msg.FenceTo op to) (Some (if a then Fence_to At_a else if instance_node to == its.to then Fence_to At_b else Stray))) [
-        | true ↦ record { pass = refl; carry = refl; event = refl; forward = λ _. refl }
-        | false ↦ elim (instance_node to == its.to) as (λ b. IsRead (Msg.FenceTo op to) (Some (if b then Fence_to At_b else Stray))) [
-          | true ↦ record { pass = refl; carry = refl; event = refl; forward = λ _. refl }
-          | false ↦ record { pass = refl; carry = refl; event = refl; forward = λ _. refl }
-        ]
-      ]
+  fence_read op to = split (instance_node to == its.from)
+      (λ a. IsRead (Msg.FenceTo op to) (Some (if a then Fence_to At_a else if instance_node to == its.to then Fence_to At_b else Stray)))
+      (λ _. record { pass = refl; carry = refl; event = refl; forward = λ _. refl })
+      (λ _. split (instance_node to == its.to) (λ b. IsRead (Msg.FenceTo op to) (Some (if b then Fence_to At_b else Stray)))
+      (λ _. record { pass = refl; carry = refl; event = refl; forward = λ _. refl })
+      (λ _. record { pass = refl; carry = refl; event = refl; forward = λ _. refl }))
 
   install_read : (op : ℕ) (filter : Filter) (from : ℕ) (to : Target)
       → IsRead (Msg.Install op filter from to) (see_of (shown f g (Msg.Install op filter from to)))
@@ -114,11 +112,10 @@ module _ {R : Type 0} (f : Semantics R) (g : Given) (z : Seeing) (es : List Open
   install_read op filter from (Target.Instance to) =
       either (Msg.Install op filter from (Target.Instance to)) (if (instance_node from == its.from) && (instance_node to == its.to) then Install else Stray)
       (record { pass = refl; carry = refl; event = refl; forward = λ _. refl })
-      (elim ((instance_node from == its.from) && (instance_node to == its.to))
-      as (λ b. IsRead (Msg.Install op filter from (Target.Instance to)) (Some (if b then Install else Stray))) [
-        | true ↦ record { pass = refl; carry = refl; event = refl; forward = λ _. refl }
-        | false ↦ record { pass = refl; carry = refl; event = refl; forward = λ _. refl }
-      ]) (op == its.move)
+      (split ((instance_node from == its.from) && (instance_node to == its.to))
+      (λ b. IsRead (Msg.Install op filter from (Target.Instance to)) (Some (if b then Install else Stray)))
+      (λ _. record { pass = refl; carry = refl; event = refl; forward = λ _. refl })
+      (λ _. record { pass = refl; carry = refl; event = refl; forward = λ _. refl })) (op == its.move)
 
   asked_read : (k : Command) (what : Order) → IsRead (Msg.Asked k) (see_of (asked_of f (place g) k.op what))
   asked_read k (Order.Move src dst filter keep) = by_want (want_of (place g) k.op (Order.Move src dst filter keep))

@@ -21,11 +21,8 @@ module _ {F R : Type 0} (here : Reached F R) (u : Unit) (apart : IsApart here u)
   abbrev g : Given
   g = given f c items is
 
-  abbrev z : Seeing
-  z = see (S f g) (is_sys f g.site g.packet) u op third
-
   abbrev mine : ℕ → Bool
-  mine = (frame (S f g) z).mine
+  mine = (frame (S f g) (see (S f g) (is_sys f g.site g.packet) u op third)).mine
 
   -- what stands on a link, and one link that has all there is
   module _ (of : Msg → List ℕ) (at : ℕ → ℕ → List ℕ) (is_at : (i k : ℕ) → i < n → k < n → filter mine (flat_map of (on_link w i k)) ≡ at i k) (s r : ℕ)
@@ -67,14 +64,12 @@ module _ {F R : Type 0} (here : Reached F R) (u : Unit) (apart : IsApart here u)
 
   module _ (third_none : passes_in x.sc ≡ []) where
     expect_pass : (k : ℕ) → passes_in (expect a b third x 0 k) ≡ pass_at 0 k
-    expect_pass k = elim (k == a) as (λ t. passes_in (if t then x.sa else if k == b then x.sb else if k == third then x.sc else [])
-        ≡ (if t then passes_in x.sa else if k == b then passes_in x.sb else [])) [
-          | true ↦ refl
-          | false ↦ elim (k == b) as (λ t. passes_in (if t then x.sb else if k == third then x.sc else []) ≡ (if t then passes_in x.sb else [])) [
-            | true ↦ refl
-            | false ↦ elim (k == third) as (λ t. passes_in (if t then x.sc else []) ≡ []) [ true ↦ third_none | false ↦ refl ]
-          ]
-        ]
+    expect_pass k = split (k == a)
+        (λ t. passes_in (if t then x.sa else if k == b then x.sb else if k == third then x.sc else []) ≡
+        (if t then passes_in x.sa else if k == b then passes_in x.sb else []))
+        (λ _. refl)
+        (λ _. split (k == b) (λ t. passes_in (if t then x.sb else if k == third then x.sc else []) ≡ (if t then passes_in x.sb else [])) (λ _. refl)
+        (λ _. elim (k == third) as (λ t. passes_in (if t then x.sc else []) ≡ []) [ true ↦ third_none | false ↦ refl ]))
 
     pass_is : (i k : ℕ) → i < n → k < n → filter mine (flat_map passed_in (on_link w i k)) ≡ pass_at i k
     pass_is i k hi hk = split (i == 0)
@@ -156,14 +151,11 @@ module _ {F R : Type 0} (here : Reached F R) (u : Unit) (apart : IsApart here u)
     expect_event i two =
         let i0 : (i == 0) ≡ false = grind (arith, nat_tests, two) in
         let i1 : (i == 1) ≡ false = grind (arith, nat_tests, two) in
-        rw (i0, i1) (elim (i == a)
-        as (λ t. events_in (if t then x.ac else if i == b then x.bc else if i == third then x.cc else []) ≡ (if t then events_in x.ac else [])) [
-          | true ↦ refl
-          | false ↦ elim (i == b) as (λ t. events_in (if t then x.bc else if i == third then x.cc else []) ≡ []) [
-            | true ↦ none_b
-            | false ↦ elim (i == third) as (λ t. events_in (if t then x.cc else []) ≡ []) [ true ↦ none_c | false ↦ refl ]
-          ]
-        ])
+        rw (i0, i1) (split (i == a)
+        (λ t. events_in (if t then x.ac else if i == b then x.bc else if i == third then x.cc else []) ≡ (if t then events_in x.ac else []))
+        (λ _. refl)
+        (λ _. split (i == b) (λ t. events_in (if t then x.bc else if i == third then x.cc else []) ≡ []) (λ _. none_b)
+        (λ _. elim (i == third) as (λ t. events_in (if t then x.cc else []) ≡ []) [ true ↦ none_c | false ↦ refl ])))
 
     event_is : (i k : ℕ) → i < n → k < n → filter mine (flat_map handed_over_in (on_link w i k)) ≡ event_at i k
     event_is i k hi hk = split (k == 1)

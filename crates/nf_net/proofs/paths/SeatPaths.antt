@@ -113,19 +113,18 @@ module _ {F R : Type 0} (here : Reached F R) (in_turn : IsFront (arrivals_in her
   at_one m = if m == k.op.src then at_side x.a x.sa else if m == k.op.dst then at_side x.b x.sb else if m == k.third then at_side x.c x.sc else []
 
   side_is : (m : ℕ) → (node_at (S f g) z x m).held ++ carries (expect k.op.src k.op.dst k.third x 0 m) ≡ at_one m
-  side_is m = elim (m == k.op.src) as (λ t. (if t then x.a else if m == k.op.dst then x.b else if m == k.third then x.c else idle None).held
-      ++ carries (if t then x.sa else if m == k.op.dst then x.sb else if m == k.third then x.sc else [])
-      ≡ (if t then at_side x.a x.sa else if m == k.op.dst then at_side x.b x.sb else if m == k.third then at_side x.c x.sc else [])) [
-        | true ↦ refl
-        | false ↦ elim (m == k.op.dst) as (λ t. (if t then x.b else if m == k.third then x.c else idle None).held
-            ++ carries (if t then x.sb else if m == k.third then x.sc else [])
-            ≡ (if t then at_side x.b x.sb else if m == k.third then at_side x.c x.sc else [])) [
-              | true ↦ refl
-              | false ↦ elim (m == k.third) as (λ t. (if t then x.c else idle None).held ++ carries (if t then x.sc else [])
-                  ≡ (if t then at_side x.c x.sc else []))
-                  [ true ↦ refl | false ↦ refl ]
-            ]
-      ]
+  side_is m = split (m == k.op.src)
+      (λ t. (if t then x.a else if m == k.op.dst then x.b else if m == k.third then x.c else idle None).held ++ carries
+      (if t then x.sa else if m == k.op.dst then x.sb else if m == k.third then x.sc else []) ≡
+      (if t then at_side x.a x.sa else if m == k.op.dst then at_side x.b x.sb else if m == k.third then at_side x.c x.sc else []))
+      (λ _. refl)
+      (λ _. split (m == k.op.dst)
+      (λ t. (if t then x.b else if m == k.third then x.c else idle None).held ++ carries (if t then x.sb else if m == k.third then x.sc else []) ≡
+      (if t then at_side x.b x.sb else if m == k.third then at_side x.c x.sc else []))
+      (λ _. refl)
+      (λ _. elim (m == k.third) as (λ t. (if t then x.c else idle None).held ++ carries (if t then x.sc else [])
+      ≡ (if t then at_side x.c x.sc else []))
+      [ true ↦ refl | false ↦ refl ]))
 
   inside : (i : ℕ) → instance_node i < n → filter mine (at_instance w i) ≡ at_one (instance_node i)
   inside i few = stands_at here u apart k.op k.third x k.holds (instance_node i) (omega arith) few ∙ side_is (instance_node i)

@@ -4,7 +4,7 @@ use Rattle.nf_net.proofs.Words.{◌==◌, ◌&&◌, nat_lt, slice_get, filter, f
 use Rattle.nf_net.proofs.Words.{on_link, Each, UnitShare, View, mine_in, shape, OfShare, Open, find_op, RestRule, NothingOf, none_mine, ShareLabel, label_of}
 use Rattle.nf_net.proofs.Words.{unit_share, share_expect, share_items, as_share, WantShare, OpenShare, EachNew, olds, SeeingShare, seeing, lasts, passed_in}
 use Rattle.nf_net.proofs.Words.{carried_in, forwarded_in, handed_over_in, diverted_in, stored_by, queued_by, held_by, on_links, Sees, but_shares, both, Given}
-use Rattle.nf_net.proofs.Words.{place, S, A, shown, given, Unit, either_way}
+use Rattle.nf_net.proofs.Words.{place, S, A, shown, given, Unit, either_way, split}
 use Rattle.proof_machines.proofs.share.Path.{carries, shared_in, forwarded as forwards, diverted as diverts}
 use Rattle.proof_machines.proofs.net.NewMessages.{each_new_map}
 use Rattle.proof_machines.proofs.net.ShareLabels.{queue_other}
@@ -36,9 +36,6 @@ module _ {F R : Type 0} (here : Reached F R) (u : Unit) (x : WantShare) (before 
 
   abbrev mine : ℕ → Bool
   mine = fr.mine
-
-  abbrev e : OpenShare
-  e = as_share (S f g) (A f g) z v.phase v.queue
 
   -- Links.
   pub link_known : (s r : ℕ) → s < n → r < n → (s == 0) && (r == 0) ≡ false → AreKnown f g z k.covered s r (filter_map (shown f g) (on_link w s r))
@@ -76,7 +73,7 @@ module _ {F R : Type 0} (here : Reached F R) (u : Unit) (x : WantShare) (before 
   its_places = places fr k.is k.stage
 
   at_few : its_places.at < n
-  at_few = members_few f c items is n count w j e k.holds.share its_places.at its_places.inside
+  at_few = members_few f c items is n count w j (as_share (S f g) (A f g) z v.phase v.queue) k.holds.share its_places.at its_places.inside
 
   -- the share's packet on its way to a member
   pub passed_are : filter mine (on_links w passed_in) ≡ shared_in fr (v.sw its_places.at)
@@ -147,10 +144,8 @@ module _ {F R : Type 0} (here : Reached F R) (u : Unit) (x : WantShare) (before 
   -- What waits for shares waits for its own.
   those_in : (ps : List ℕ) → filter mine ps ≡ mine_in fr ps
   those_in [] = refl
-  those_in (p ∷ ps) = elim (mine p) as (λ b. (if b then p ∷ filter mine ps else filter mine ps) ≡ (if b then p ∷ [] else []) ++ mine_in fr ps) [
-    | true ↦ ap (λ l. p ∷ l) (those_in ps)
-    | false ↦ those_in ps
-  ]
+  those_in (p ∷ ps) = split (mine p) (λ b. (if b then p ∷ filter mine ps else filter mine ps) ≡ (if b then p ∷ [] else []) ++ mine_in fr ps)
+      (λ _. ap (λ l. p ∷ l) (those_in ps)) (λ _. those_in ps)
 
   none_those : (ps : List ℕ) → Each (λ p. mine p ≡ false) ps → filter mine ps ≡ []
   none_those [] h = refl
