@@ -7,7 +7,7 @@ use Rattle.proof_machines.proofs.net.Words.{OperationTurn, r_goes, r_from_source
 use Rattle.proof_machines.proofs.net.Words.{see_phase, sent_for, sends_to, Sees, NodesDiffer, quiet, did_a, did_b, Each, Foreign, SentForeign, Clean}
 use Rattle.proof_machines.proofs.net.Words.{StaysClean, from_source_clean, from_destination_clean, items, Filter, Msg, Carry_on, Pass_on, Fence_on, Mv, Sys}
 use Rattle.proof_machines.proofs.net.Words.{Open, find_op, write_op, num_of, row_of, row, filter_for, wrap, ControllerMove, found, numbered, ctrl_step, seen}
-use Rattle.proof_machines.proofs.net.Words.{Seeing, EachSent, frame, MoveLabel, Label, OpLabel, IsController, same_unit, either_way, by_if}
+use Rattle.proof_machines.proofs.net.Words.{Seeing, EachSent, frame, MoveLabel, Label, OpLabel, IsController, same_unit, either_way, by_if, split}
 use Rattle.proof_machines.proofs.unit.Machine.{Carry, Fence, Forward, Phase}
 use Rattle.proof_machines.proofs.unit.Real
 use Rattle.move_op.specs.Phases.{Over}
@@ -27,11 +27,10 @@ module _ {R : Type 0} (S : Sys R) (z : Seeing) where
 
   pub wrap_view : (g : Filter) (y : ℕ) (xs : List (ℕ × Real.Msg R)) → its (sent_for y (wrap g xs)) ≡ view fr (sent_for y xs)
   wrap_view g y [] = refl
-  wrap_view g y (x ∷ xs) = elim (x.0 == y) as (λ b. its (if b then Mv (filter_for g x.1) x.1 ∷ sent_for y (wrap g xs) else sent_for y (wrap g xs))
-      ≡ view fr (if b then x.1 ∷ sent_for y xs else sent_for y xs)) [
-        | true ↦ ap (λ v. add (Real.seen fr x.1) v) (wrap_view g y xs)
-        | false ↦ wrap_view g y xs
-      ]
+  wrap_view g y (x ∷ xs) = split (x.0 == y)
+      (λ b. its (if b then Mv (filter_for g x.1) x.1 ∷ sent_for y (wrap g xs) else sent_for y (wrap g xs)) ≡ view fr
+      (if b then x.1 ∷ sent_for y xs else sent_for y xs))
+      (λ _. ap (λ v. add (Real.seen fr x.1) v) (wrap_view g y xs)) (λ _. wrap_view g y xs)
 
   one_label : (o : Op) (g : Filter) (m : Real.Msg R) → OfRow o m → S.takes g z.unit ≡ (o.num == n) → ((o.num == n) ≡ false → Foreign z.unit m)
       → MoveLabel S z (filter_for g m) m
@@ -180,19 +179,15 @@ module _ {R : Type 0} (S : Sys R) (z : Seeing) where
     own_sees : (ph : RPhase R) (f : List ℕ) (port : ℕ) (m : Real.Msg R) → num_of m ≡ Some n
         → Sees fr (row_of z.op ph f port m) (mdid (port == z.op.src) (port == z.op.dst) (see_phase fr ph) (only_mine fr f) (Real.seen fr m))
     own_sees ph f port m num =
-        elim (port == z.op.src) as (λ a. Sees fr
-        (if a then r_from_source z.op ph f m else if port == z.op.dst then r_from_destination z.op ph f m else r_goes ph f [])
-        (mdid a (port == z.op.dst) (see_phase fr ph) (only_mine fr f) (Real.seen fr m))) [
-          | true ↦ conv_a (port == z.op.dst) (r_from_source z.op ph f m) ph f (Real.seen fr m)
-              (ext_a z.op (λ p. same_unit (S.packet_unit p) z.unit) z.unit apart ph f m num)
-          | false ↦ elim (port == z.op.dst)
-              as (λ b. Sees fr (if b then r_from_destination z.op ph f m else r_goes ph f [])
-              (mdid false b (see_phase fr ph) (only_mine fr f) (Real.seen fr m))) [
-                | true ↦ conv_b (r_from_destination z.op ph f m) ph f (Real.seen fr m)
-                    (ext_b z.op (λ p. same_unit (S.packet_unit p) z.unit) z.unit apart ph f m num)
-                | false ↦ conv_0 ph f (Real.seen fr m)
-              ]
-        ]
+        split (port == z.op.src)
+        (λ a. Sees fr (if a then r_from_source z.op ph f m else if port == z.op.dst then r_from_destination z.op ph f m else r_goes ph f [])
+        (mdid a (port == z.op.dst) (see_phase fr ph) (only_mine fr f) (Real.seen fr m)))
+        (λ _. conv_a (port == z.op.dst) (r_from_source z.op ph f m) ph f (Real.seen fr m)
+        (ext_a z.op (λ p. same_unit (S.packet_unit p) z.unit) z.unit apart ph f m num))
+        (λ _. split (port == z.op.dst)
+        (λ b. Sees fr (if b then r_from_destination z.op ph f m else r_goes ph f []) (mdid false b (see_phase fr ph) (only_mine fr f) (Real.seen fr m)))
+        (λ _. conv_b (r_from_destination z.op ph f m) ph f (Real.seen fr m)
+        (ext_b z.op (λ p. same_unit (S.packet_unit p) z.unit) z.unit apart ph f m num)) (λ _. conv_0 ph f (Real.seen fr m)))
 
     own_found : (e : Open R) (port : ℕ) (m : Real.Msg R) → find_op es n ≡ Some e → IsController S z (Some e) x → num_of m ≡ Some n
         → SeesController (found es n port m (Some e)) (mdid (port == z.op.src) (port == z.op.dst) x.phase x.store (Real.seen fr m))

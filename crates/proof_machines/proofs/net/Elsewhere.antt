@@ -72,11 +72,10 @@ module _ {R : Type 0} (S : Sys R) where
 
     carries-append : (ms ns : List (Msg R)) → carries_of S u (ms ++ ns) ≡ carries_of S u ms ++ carries_of S u ns
     carries-append [] ns = refl
-    carries-append (Carry_on p ∷ ms) ns = elim (same_unit (S.packet_unit p) u) as (λ b. (if b then p ∷ carries_of S u (ms ++ ns)
-        else carries_of S u (ms ++ ns)) ≡ (if b then p ∷ carries_of S u ms else carries_of S u ms) ++ carries_of S u ns) [
-          | true ↦ ap (λ v. p ∷ v) (carries-append ms ns)
-          | false ↦ carries-append ms ns
-        ]
+    carries-append (Carry_on p ∷ ms) ns = split (same_unit (S.packet_unit p) u)
+        (λ b. (if b then p ∷ carries_of S u (ms ++ ns) else carries_of S u (ms ++ ns)) ≡ (if b then p ∷ carries_of S u ms else carries_of S u ms)
+        ++ carries_of S u ns)
+        (λ _. ap (λ v. p ∷ v) (carries-append ms ns)) (λ _. carries-append ms ns)
     carries-append (Pass_on p ∷ ms) ns = carries-append ms ns
     carries-append (Fence_on k ∷ ms) ns = carries-append ms ns
     carries-append (Mv g m ∷ ms) ns = carries-append ms ns

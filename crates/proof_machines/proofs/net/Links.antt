@@ -121,11 +121,9 @@ module _ {R : Type 0} (S : Sys R) (z : Seeing) where
 
   pub done_of-append : (x y : List (ℕ × ℕ)) → done_of S z (x ++ y) ≡ done_of S z x ++ done_of S z y
   done_of-append [] y = refl
-  done_of-append (d ∷ x) y = elim (same_unit (S.packet_unit d.0) z.unit)
-      as (λ b. (if b then d.0 ∷ done_of S z (x ++ y) else done_of S z (x ++ y)) ≡ (if b then d.0 ∷ done_of S z x else done_of S z x) ++ done_of S z y) [
-        | true ↦ ap (λ v. d.0 ∷ v) (done_of-append x y)
-        | false ↦ done_of-append x y
-      ]
+  done_of-append (d ∷ x) y = split (same_unit (S.packet_unit d.0) z.unit)
+      (λ b. (if b then d.0 ∷ done_of S z (x ++ y) else done_of S z (x ++ y)) ≡ (if b then d.0 ∷ done_of S z x else done_of S z x) ++ done_of S z y)
+      (λ _. ap (λ v. d.0 ∷ v) (done_of-append x y)) (λ _. done_of-append x y)
 
   pub done_at : (y : ℕ) (ps : List ℕ) → done_of S z (at_node y ps) ≡ only_mine (frame S z) ps
   done_at y [] = refl

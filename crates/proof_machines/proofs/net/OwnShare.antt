@@ -17,19 +17,18 @@ syncs_sent : {R : Type 0} (n home j k : ℕ) (cs : Real.Chunks R) (ms : List ℕ
 syncs_sent n home j k cs [] d = refl
 syncs_sent n home j k cs (m ∷ ms) d =
     let a = apart_of (has ms m) (distinct ms) d in
-    elim (m == j) as (λ b. sent_for k (if b then syncs n home j cs ms else (m, New (S_sync n (m == home) cs)) ∷ syncs n home j cs ms)
-    ≡ (if has (if b then without_number ms j else m ∷ without_number ms j) k then New (S_sync n (k == home) cs) ∷ [] else [])) [
-      | true ↦ syncs_sent n home j k cs ms a.1
-      | false ↦ split (m == k) (λ b. (if b then New (S_sync n (m == home) cs) ∷ sent_for k (syncs n home j cs ms) else sent_for k (syncs n home j cs ms))
-          ≡ (if (if k == m then true else has (without_number ms j) k) then New (S_sync n (k == home) cs) ∷ [] else []))
-          (λ e.
-          let eq : m ≡ k = (Decides-eqb m k).0 e in
-          let out : has (without_number ms j) k ≡ false = has-without ms j k ∙ rw (subst (λ y. has ms y ≡ false) eq a.0) refl in
-          let on : (k == m) ≡ true = grind (arith, nat_tests) in
-          let rest = syncs_sent n home j k cs ms a.1 in
-          rw (rest, out, on) (ap (λ y. New (S_sync n (y == home) cs) ∷ []) eq))
-          (λ e. let off : (k == m) ≡ false = grind (arith, nat_tests) in rw off (syncs_sent n home j k cs ms a.1))
-    ]
+    split (m == j) (λ b. sent_for k (if b then syncs n home j cs ms else (m, New (S_sync n (m == home) cs)) ∷ syncs n home j cs ms) ≡
+    (if has (if b then without_number ms j else m ∷ without_number ms j) k then New (S_sync n (k == home) cs) ∷ [] else []))
+    (λ _. syncs_sent n home j k cs ms a.1)
+    (λ _. split (m == k) (λ b. (if b then New (S_sync n (m == home) cs) ∷ sent_for k (syncs n home j cs ms) else sent_for k (syncs n home j cs ms))
+    ≡ (if (if k == m then true else has (without_number ms j) k) then New (S_sync n (k == home) cs) ∷ [] else []))
+    (λ e.
+    let eq : m ≡ k = (Decides-eqb m k).0 e in
+    let out : has (without_number ms j) k ≡ false = has-without ms j k ∙ rw (subst (λ y. has ms y ≡ false) eq a.0) refl in
+    let on : (k == m) ≡ true = grind (arith, nat_tests) in
+    let rest = syncs_sent n home j k cs ms a.1 in
+    rw (rest, out, on) (ap (λ y. New (S_sync n (y == home) cs) ∷ []) eq))
+    (λ e. let off : (k == m) ≡ false = grind (arith, nat_tests) in rw off (syncs_sent n home j k cs ms a.1)))
 
 module _ {R : Type 0} (S : Sys R) (A : Sharing S) (z : SeeingShare) (is : IsShare (unit_share S A z)) (insts : (k : ℕ) → has z.members k ≡ true → 2 ≤ k) where
   abbrev f : UnitShare R
@@ -56,12 +55,10 @@ module _ {R : Type 0} (S : Sys R) (A : Sharing S) (z : SeeingShare) (is : IsShar
   syncs_seen : (j : ℕ) (cs : Real.Chunks R) (k : ℕ)
       → share_items S A z k (sent_for k (syncs z.num z.home j cs z.members)) ≡ sync_to (without_number z.members j) (record_at z.unit cs) k
   syncs_seen j cs k =
-      ap (share_items S A z k) (syncs_sent z.num z.home j k cs z.members is.apart) ∙ elim (has (without_number z.members j) k)
-      as (λ b. share_items S A z k (if b then New (S_sync z.num (k == z.home) cs) ∷ [] else []) ≡ (if b then Sync (record_at z.unit cs) ∷ [] else [])) [
-        | true ↦ ap (λ b. add (where_true b (fit S A z (same (k == z.home) (k == z.home)) (Sync (record_at z.unit cs)))) []) (self z.num)
-            ∙ ap (λ it. it ∷ []) (agrees (k == z.home) (Sync (record_at z.unit cs)))
-        | false ↦ refl
-      ]
+      ap (share_items S A z k) (syncs_sent z.num z.home j k cs z.members is.apart) ∙ split (has (without_number z.members j) k)
+      (λ b. share_items S A z k (if b then New (S_sync z.num (k == z.home) cs) ∷ [] else []) ≡ (if b then Sync (record_at z.unit cs) ∷ [] else []))
+      (λ _. ap (λ b. add (where_true b (fit S A z (same (k == z.home) (k == z.home)) (Sync (record_at z.unit cs)))) []) (self z.num)
+      ∙ ap (λ it. it ∷ []) (agrees (k == z.home) (Sync (record_at z.unit cs)))) (λ _. refl)
 
   none_to_s : (j : ℕ) (cs : Real.Chunks R) → share_items S A z 0 (sent_for 0 (syncs z.num z.home j cs z.members)) ≡ []
   none_to_s j cs = let out : has (without_number z.members j) 0 ≡ false = has-without z.members j 0 ∙ rw none_at_0 refl in syncs_seen j cs 0 ∙ rw out refl

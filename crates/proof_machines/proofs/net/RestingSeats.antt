@@ -95,12 +95,12 @@ module _ {R : Type 0} (S : Sys R) (z : Seeing) where
 
   node_rest : (side : Where) (d : List Ran) (l : List ℕ) (ph : Phase R) (keep : Bool) (k : ℕ) → Nodes z.op.src z.op.dst z.third
       → node_at S z (rest_at S.F side d l ph keep) k ≡ idle (if k == place S z side then after S.F d else None)
-  node_rest At_a d l ph keep k nodes = elim (k == z.op.src) as (λ t. (if t then idle (after S.F d) else if k == z.op.dst then idle None else if k == z.third
-      then idle None else idle None) ≡ idle (if t then after S.F d else None)) [
-        | true ↦ refl
-        | false ↦ elim (k == z.op.dst) as (λ t. (if t then idle None else if k == z.third then idle None else idle None) ≡ idle {R = R} None)
-            [ true ↦ refl | false ↦ elim (k == z.third) as (λ t. (if t then idle None else idle None) ≡ idle {R = R} None) [ true ↦ refl | false ↦ refl ] ]
-      ]
+  node_rest At_a d l ph keep k nodes = split (k == z.op.src)
+      (λ t. (if t then idle (after S.F d) else if k == z.op.dst then idle None else if k == z.third then idle None else idle None) ≡ idle
+      (if t then after S.F d else None))
+      (λ _. refl)
+      (λ _. elim (k == z.op.dst) as (λ t. (if t then idle None else if k == z.third then idle None else idle None) ≡ idle {R = R} None)
+      [ true ↦ refl | false ↦ elim (k == z.third) as (λ t. (if t then idle None else idle None) ≡ idle {R = R} None) [ true ↦ refl | false ↦ refl ] ])
   node_rest At_b d l ph keep k nodes = split (k == z.op.src)
       (λ t. (if t then idle None else if k == z.op.dst then idle (after S.F d) else if k == z.third then idle None else idle None)
       ≡ idle (if k == z.op.dst then after S.F d else None))
@@ -204,11 +204,10 @@ module _ {R : Type 0} (S : Sys R) (z : Seeing) where
   link_rest i [] [] e h = (refl, tt)
   link_rest i [] (p ∷ l) e h = cc
   link_rest i (Carry_on p ∷ ms) l e h =
-      elim (same_unit (S.packet_unit p) u) as (λ t. add (where_true t (Carry p)) (its ms) ≡ map Carry l
-      → ((if t then p ∷ carries_of S u ms else carries_of S u ms) ≡ l) × Each (NothingOf S u i) (Carry_on p ∷ ms)) [
-        | true ↦ λ g. by_list l g (λ k t. link_rest i ms k t h.1)
-        | false ↦ λ g. let r = link_rest i ms l g h.1 in (r.0, (tt, r.1))
-      ] e
+      split (same_unit (S.packet_unit p) u)
+      (λ t. add (where_true t (Carry p)) (its ms) ≡ map Carry l → ((if t then p ∷ carries_of S u ms else carries_of S u ms) ≡ l) × Each (NothingOf S u i)
+      (Carry_on p ∷ ms))
+      (λ _. λ g. by_list l g (λ k t. link_rest i ms k t h.1)) (λ _. λ g. let r = link_rest i ms l g h.1 in (r.0, (tt, r.1))) e
     where
       by_list : (l : List ℕ) → Carry p ∷ its ms ≡ map Carry l → ((k : List ℕ) → its ms ≡ map Carry k → (carries_of S u ms ≡ k) × Each (NothingOf S u i) ms)
           → (p ∷ carries_of S u ms ≡ l) × Each (NothingOf S u i) (Carry_on p ∷ ms)

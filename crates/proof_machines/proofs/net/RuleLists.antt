@@ -42,10 +42,8 @@ find-append_other n x (r ∷ rs) off = ap (λ o. if r.num == n then Some r else 
 find-append_own : (n : ℕ) (x : Ruling) (rs : List Ruling) → (x.num == n) ≡ true → find_rule n rs ≡ None → find_rule n (rs ++ x ∷ []) ≡ Some x
 find-append_own n x [] on none = rw on refl
 find-append_own n x (r ∷ rs) on none =
-    elim (r.num == n) as (λ b. (if b then Some r else find_rule n rs) ≡ None → (if b then Some r else find_rule n (rs ++ x ∷ [])) ≡ Some x) [
-      | true ↦ λ bad. cc
-      | false ↦ λ left. find-append_own n x rs on left
-    ] none
+    split (r.num == n) (λ b. (if b then Some r else find_rule n rs) ≡ None → (if b then Some r else find_rule n (rs ++ x ∷ [])) ≡ Some x) (λ _. λ bad. cc)
+    (λ _. λ left. find-append_own n x rs on left) none
 
 -- a rule is set
 pub find_set_other : (n m : ℕ) (g : Filter) (k : Rule) (rs : List Ruling) → (m == n) ≡ false → find_rule n (set_rule m g k rs) ≡ find_rule n rs

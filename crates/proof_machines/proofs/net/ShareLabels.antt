@@ -23,10 +23,9 @@ module _ {R : Type 0} (S : Sys R) (A : Sharing S) (z : SeeingShare) where
   takes_some [] n e v is on = cc
   takes_some (x ∷ es) n e v is on =
       split (S.takes x.filter v) (λ b. (d : OpenShare) × ((if b then Some x else share_taking S es v) ≡ Some d)) (λ _. (x, refl))
-      (λ off. elim (x.num == n) as (λ b. (if b then Some x else find_share es n) ≡ Some e → (d : OpenShare) × (share_taking S es v ≡ Some d)) [
-        | true ↦ λ here. let same_is : x ≡ e = cc in let never : false ≡ true = sym off ∙ subst (λ y. S.takes y.filter v ≡ true) (sym same_is) on in cc
-        | false ↦ λ there. takes_some es n e v there on
-      ] is)
+      (λ off. split (x.num == n) (λ b. (if b then Some x else find_share es n) ≡ Some e → (d : OpenShare) × (share_taking S es v ≡ Some d))
+      (λ _. λ here. let same_is : x ≡ e = cc in let never : false ≡ true = sym off ∙ subst (λ y. S.takes y.filter v ≡ true) (sym same_is) on in cc)
+      (λ _. λ there. takes_some es n e v there on) is)
 
   module _ (w : WholeWorld S A) (g : GlobalAll S A w) (covered : S.takes z.filter z.unit ≡ true) (ph : Phase) (q : List ℕ)
       (there : find_share w.shares z.num ≡ Some (as_share S A z ph q)) where

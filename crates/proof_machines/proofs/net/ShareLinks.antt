@@ -96,11 +96,10 @@ module _ {R : Type 0} (S : Sys R) (A : Sharing S) (z : SeeingShare) where
 
   pub ran_of-append : (xs ys : List (ℕ × ℕ)) → ran_of S A z.unit (xs ++ ys) ≡ ran_of S A z.unit xs ++ ran_of S A z.unit ys
   ran_of-append [] ys = refl
-  ran_of-append (d ∷ xs) ys = elim (same_unit (S.packet_unit d.0) z.unit) as (λ b. (if b then d ∷ ran_of S A z.unit (xs ++ ys)
-      else ran_of S A z.unit (xs ++ ys)) ≡ (if b then d ∷ ran_of S A z.unit xs else ran_of S A z.unit xs) ++ ran_of S A z.unit ys) [
-        | true ↦ ap (λ ds. d ∷ ds) (ran_of-append xs ys)
-        | false ↦ ran_of-append xs ys
-      ]
+  ran_of-append (d ∷ xs) ys = split (same_unit (S.packet_unit d.0) z.unit)
+      (λ b. (if b then d ∷ ran_of S A z.unit (xs ++ ys) else ran_of S A z.unit (xs ++ ys)) ≡ (if b then d ∷ ran_of S A z.unit xs else ran_of S A z.unit xs)
+      ++ ran_of S A z.unit ys)
+      (λ _. ap (λ ds. d ∷ ds) (ran_of-append xs ys)) (λ _. ran_of-append xs ys)
 
   -- a step is nothing to the unit, or a move of its machine that brings none of its packets
   pub data Goes (w : WholeWorld S A) (x : View R) : Type 0 where

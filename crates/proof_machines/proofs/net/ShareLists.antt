@@ -27,10 +27,8 @@ found_num (x ∷ es) n e is = split (x.num == n) (λ b. (if b then Some x else f
 
 pub found_each : (P : OpenShare → Type 0) (es : List OpenShare) (n : ℕ) (e : OpenShare) → Each P es → find_share es n ≡ Some e → P e
 found_each P [] n e h is = cc
-found_each P (x ∷ es) n e h is = elim (x.num == n) as (λ b. (if b then Some x else find_share es n) ≡ Some e → P e) [
-  | true ↦ λ there. let same : x ≡ e = cc in subst P same h.0
-  | false ↦ λ there. found_each P es n e h.1 there
-] is
+found_each P (x ∷ es) n e h is = split (x.num == n) (λ b. (if b then Some x else find_share es n) ≡ Some e → P e)
+    (λ _. λ there. let same : x ≡ e = cc in subst P same h.0) (λ _. λ there. found_each P es n e h.1 there) is
 
 -- found by its own number
 pub found_own : (es : List OpenShare) (n : ℕ) (e : OpenShare) → find_share es n ≡ Some e → find_share es e.num ≡ Some e
@@ -39,11 +37,10 @@ found_own es n e is = let same : e.num ≡ n = (Decides-eqb e.num n).0 (found_nu
 pub each_set_share : (P : OpenShare → Type 0) (n : ℕ) (ph : Phase) (q : List ℕ) (es : List OpenShare) (e : OpenShare) → find_share es n ≡ Some e
     → P (record e { phase = ph; queue = q }) → Each P es → Each P (set_share n ph q es)
 each_set_share P n ph q [] e is new h = tt
-each_set_share P n ph q (x ∷ es) e is new h = elim (x.num == n)
-    as (λ b. (if b then Some x else find_share es n) ≡ Some e → Each P (if b then record x { phase = ph; queue = q } ∷ es else x ∷ set_share n ph q es)) [
-      | true ↦ λ there. let same : x ≡ e = cc in (subst (λ y. P (record y { phase = ph; queue = q })) (sym same) new, h.1)
-      | false ↦ λ there. (h.0, each_set_share P n ph q es e there new h.1)
-    ] is
+each_set_share P n ph q (x ∷ es) e is new h = split (x.num == n)
+    (λ b. (if b then Some x else find_share es n) ≡ Some e → Each P (if b then record x { phase = ph; queue = q } ∷ es else x ∷ set_share n ph q es))
+    (λ _. λ there. let same : x ≡ e = cc in (subst (λ y. P (record y { phase = ph; queue = q })) (sym same) new, h.1))
+    (λ _. λ there. (h.0, each_set_share P n ph q es e there new h.1)) is
 
 itself : (e : OpenShare) → SameShare e e
 itself e = record { num = refl; home = refl; members = refl; filter = refl }
@@ -81,11 +78,9 @@ find_set n ph q (x ∷ es) k e is = by_if (λ r. Found r k e) (x.num == n) (firs
 -- and no others
 pub set_find : (n : ℕ) (ph : Phase) (q : List ℕ) (es : List OpenShare) (k : ℕ) (e : OpenShare) → find_share (set_share n ph q es) k ≡ Some e → Found es k e
 set_find n ph q [] k e is = cc
-set_find n ph q (x ∷ es) k e is = elim (x.num == n)
-    as (λ a. find_share (if a then record x { phase = ph; queue = q } ∷ es else x ∷ set_share n ph q es) k ≡ Some e → Found (x ∷ es) k e) [
-      | true ↦ first (x.num == k) refl
-      | false ↦ later (x.num == k) (λ there. set_find n ph q es k e there) refl
-    ] is
+set_find n ph q (x ∷ es) k e is = split (x.num == n)
+    (λ a. find_share (if a then record x { phase = ph; queue = q } ∷ es else x ∷ set_share n ph q es) k ≡ Some e → Found (x ∷ es) k e)
+    (λ _. first (x.num == k) refl) (λ _. later (x.num == k) (λ there. set_find n ph q es k e there) refl) is
   where
     first : (b : Bool) → (x.num == k) ≡ b → (if b then Some (record x { phase = ph; queue = q }) else find_share es k) ≡ Some e → Found (x ∷ es) k e
     first true on there =
@@ -102,10 +97,8 @@ set_find n ph q (x ∷ es) k e is = elim (x.num == n)
 pub find_more : (es : List OpenShare) (x : OpenShare) (k : ℕ) (e : OpenShare) → find_share es k ≡ Some e → find_share (es ++ x ∷ []) k ≡ Some e
 find_more [] x k e is = cc
 find_more (y ∷ es) x k e is =
-    elim (y.num == k) as (λ b. (if b then Some y else find_share es k) ≡ Some e → (if b then Some y else find_share (es ++ x ∷ []) k) ≡ Some e) [
-      | true ↦ λ there. there
-      | false ↦ λ there. find_more es x k e there
-    ] is
+    split (y.num == k) (λ b. (if b then Some y else find_share es k) ≡ Some e → (if b then Some y else find_share (es ++ x ∷ []) k) ≡ Some e)
+    (λ _. λ there. there) (λ _. λ there. find_more es x k e there) is
 
 pub find_old : (es : List OpenShare) (x : OpenShare) (k : ℕ) → (x.num == k) ≡ false → find_share (es ++ x ∷ []) k ≡ find_share es k
 find_old [] x k off = rw off refl
@@ -114,7 +107,5 @@ find_old (y ∷ es) x k off = ap (λ o. if y.num == k then Some y else o) (find_
 pub find_new : (es : List OpenShare) (x : OpenShare) (k : ℕ) → find_share es k ≡ None → (x.num == k) ≡ true → find_share (es ++ x ∷ []) k ≡ Some x
 find_new [] x k none on = rw on refl
 find_new (y ∷ es) x k none on =
-    elim (y.num == k) as (λ b. (if b then Some y else find_share es k) ≡ None → (if b then Some y else find_share (es ++ x ∷ []) k) ≡ Some x) [
-      | true ↦ λ bad. cc
-      | false ↦ λ left. find_new es x k left on
-    ] none
+    split (y.num == k) (λ b. (if b then Some y else find_share es k) ≡ None → (if b then Some y else find_share (es ++ x ∷ []) k) ≡ Some x) (λ _. λ bad. cc)
+    (λ _. λ left. find_new es x k left on) none

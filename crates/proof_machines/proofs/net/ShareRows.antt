@@ -18,11 +18,10 @@ module _ {R : Type 0} (S : Sys R) (A : Sharing S) where
   pub taking_found : (es : List OpenShare) (v : Unit) (e : OpenShare) → AreNumbersApart es → share_taking S es v ≡ Some e → find_share es e.num ≡ Some e
   taking_found [] v e h is = cc
   taking_found (x ∷ es) v e h is =
-      elim (S.takes x.filter v) as (λ b. (if b then Some x else share_taking S es v) ≡ Some e → find_share (x ∷ es) e.num ≡ Some e) [
-        | true ↦ λ there.
-            let same : x ≡ e = cc in let self : (x.num == x.num) ≡ true = self x.num in subst (λ y. find_share (x ∷ es) y.num ≡ Some y) same (rw self refl)
-        | false ↦ λ there. let other = (taking_each (λ d. (x.num == d.num) ≡ false) es v e h.0 there).0 in rw other (taking_found es v e h.1 there)
-      ] is
+      split (S.takes x.filter v) (λ b. (if b then Some x else share_taking S es v) ≡ Some e → find_share (x ∷ es) e.num ≡ Some e)
+      (λ _. λ there.
+      let same : x ≡ e = cc in let self : (x.num == x.num) ≡ true = self x.num in subst (λ y. find_share (x ∷ es) y.num ≡ Some y) same (rw self refl))
+      (λ _. λ there. let other = (taking_each (λ d. (x.num == d.num) ≡ false) es v e h.0 there).0 in rw other (taking_found es v e h.1 there)) is
 
   -- what a message tells a share
   abbrev pub Tells : List OpenShare → Any R → OpenShare → Told R → Type 0

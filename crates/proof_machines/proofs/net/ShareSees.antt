@@ -65,10 +65,9 @@ module _ {R : Type 0} (S : Sys R) (A : Sharing S) (z : SeeingShare) where
   another_view : (e : OpenShare) → (e.num == z.num) ≡ false → (k : ℕ) (xs : List (ℕ × Any R))
       → EachSent (SentBy S A e (λ p. mine S A z p ≡ false) (λ _. Unit {0})) xs → share_items S A z k (sent_for k xs) ≡ []
   another_view e off k [] h = refl
-  another_view e off k (x ∷ xs) h = elim (x.0 == k) as (λ b. share_items S A z k (if b then x.1 ∷ sent_for k xs else sent_for k xs) ≡ []) [
-    | true ↦ ap (λ o. add o (share_items S A z k (sent_for k xs))) (another e off x.0 k x.1 h.0) ∙ another_view e off k xs h.1
-    | false ↦ another_view e off k xs h.1
-  ]
+  another_view e off k (x ∷ xs) h = split (x.0 == k) (λ b. share_items S A z k (if b then x.1 ∷ sent_for k xs else sent_for k xs) ≡ [])
+      (λ _. ap (λ o. add o (share_items S A z k (sent_for k xs))) (another e off x.0 k x.1 h.0) ∙ another_view e off k xs h.1)
+      (λ _. another_view e off k xs h.1)
 
   module _ (is : IsShare f) (insts : (k : ℕ) → has z.members k ≡ true → 2 ≤ k) (w : WholeWorld S A) (g : GlobalAll S A w) (covered : S.takes z.filter z.unit
       ≡ true) (ph : Phase) (q : List ℕ) (there : find_share w.shares z.num ≡ Some (as_share S A z ph q)) (empty : IdleEmpty f ph q) (p : ℕ) where

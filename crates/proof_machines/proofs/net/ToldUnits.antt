@@ -17,10 +17,9 @@ module _ {R : Type 0} (S : Sys R) (laws : IsSys S) (u : Unit) where
   any_tells g [] n e apart there t = cc
   any_tells g (x ∷ es) n e apart there t =
       split (S.meets g x.filter) (λ b. (if b then true else meets_any S g es) ≡ false → S.takes e.filter u ≡ false) (λ _ bad. cc)
-      (λ out more. elim (x.op.num == n) as (λ b. (if b then Some x else find_op es n) ≡ Some e → S.takes e.filter u ≡ false) [
-        | true ↦ λ is. let same : x ≡ e = cc in subst (λ y. S.takes y.filter u ≡ false) same (laws.apart g x.filter u out t)
-        | false ↦ λ is. any_tells g es n e more is t
-      ] there) apart
+      (λ out more. split (x.op.num == n) (λ b. (if b then Some x else find_op es n) ≡ Some e → S.takes e.filter u ≡ false)
+      (λ _. λ is. let same : x ≡ e = cc in subst (λ y. S.takes y.filter u ≡ false) same (laws.apart g x.filter u out t))
+      (λ _. λ is. any_tells g es n e more is t) there) apart
 
   carries_map : (l : List ℕ)
       → Rattle.proof_machines.proofs.unit.Path.carries (map (λ p. let x : Item R = Rattle.proof_machines.proofs.unit.Machine.Carry p in x) l) ≡ l

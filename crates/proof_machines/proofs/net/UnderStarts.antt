@@ -7,7 +7,7 @@ use Rattle.proof_machines.proofs.net.Words.{done_u, found_each, find_new, Number
 use Rattle.proof_machines.proofs.net.Words.{move_seen, new_seen, share_items, own_of, Any, Old, New, ShareMsg, Shared_on, Diverted_on, S_asked, S_install}
 use Rattle.proof_machines.proofs.net.Words.{S_forward, S_get, S_sync, S_chunks, S_shared, S_synced, WantShare, EachNew, olds, Sharing, IsSharing, OpenShare}
 use Rattle.proof_machines.proofs.net.Words.{new_share, find_share, WholeWorld, moves_of, begin_share, MayShare, ran_of, SeeingShare, same_unit, same_unit-true}
-use Rattle.proof_machines.proofs.net.Words.{false_from_ne_true, Unit}
+use Rattle.proof_machines.proofs.net.Words.{false_from_ne_true, Unit, split}
 use Rattle.proof_machines.proofs.unit.Machine as moves
 use Rattle.proof_machines.proofs.unit.Real
 use Rattle.proof_machines.proofs.share.Share.{Ran, Item, after}
@@ -111,10 +111,8 @@ module _ {R : Type 0} (S : Sys R) (A : Sharing S) (u : Unit) where
 
     install_seen : (j : ℕ) → share_items S A z j (sent_for j install) ≡ (if 0 == j then Install ∷ [] else [])
     install_seen j =
-        elim (0 == j) as (λ b. share_items S A z j (if b then New (S_install x.num x.filter x.home) ∷ [] else []) ≡ (if b then Install ∷ [] else [])) [
-          | true ↦ (let num = self x.num in let home = self x.home in rw (num, home) refl)
-          | false ↦ refl
-        ]
+        split (0 == j) (λ b. share_items S A z j (if b then New (S_install x.num x.filter x.home) ∷ [] else []) ≡ (if b then Install ∷ [] else []))
+        (λ _. (let num = self x.num in let home = self x.home in rw (num, home) refl)) (λ _. refl)
 
     map_if : (b : Bool) (l : List ℕ) → map {A = ℕ} {B = Item R} Carry (if b then l else []) ≡ (if b then map Carry l else [])
     map_if true l = refl

@@ -8,6 +8,7 @@ use Rattle.proof_machines.proofs.share.Stages.{IsFront, IsShare, Behind, brings,
 use Rattle.proof_machines.proofs.share.Lists.{runs-append, served-append, turn_of, turn_self, served_at}
 use Rattle.proof_machines.proofs.share.Setting.{links, orders, at_only, front_same, alike_in, same_but_sc, same_view, leads, leads_same, stays}
 use Rattle.proof_machines.proofs.share.FencedSetting.{sync_goes, none_comes, turns, some_left, just_sent, at_least_one}
+use Rattle.proof_machines.proofs.Tests.{split}
 
 module _ {R : Type 0} (f : UnitShare R) where
   pub resting : (d : List Ran) (e v : List ℕ) → (m : ShareMachineStep) → Leads f (Resting d e v) (moved f (shape f (Resting d e v)) m) (brings f m)
@@ -71,10 +72,9 @@ module _ {R : Type 0} (f : UnitShare R) where
   just_took : (d : List Ran) (e : List ℕ) (p : ℕ) (at : ℕ → Turn) → is_pending (at (f.member_of p)) ≡ false
       → Behind f (d ++ served f e) (d ++ served f (e ++ if_mine f p)) at
   just_took d e p at off =
-      elim (f.mine p) as (λ t. Behind f (d ++ served f e) (d ++ served f (e ++ cond t (p ∷ []) [])) at) [
-        | true ↦ inr (p, (rw (served-append f e (p ∷ [])) (sym (append_assoc d (served f e) ((p, f.member_of p) ∷ []))), off))
-        | false ↦ inl (rw (append-nil e) refl)
-      ]
+      split (f.mine p) (λ t. Behind f (d ++ served f e) (d ++ served f (e ++ cond t (p ∷ []) [])) at)
+      (λ _. inr (p, (rw (served-append f e (p ∷ [])) (sym (append_assoc d (served f e) ((p, f.member_of p) ∷ []))), off)))
+      (λ _. inl (rw (append-nil e) refl))
 
   chunk_arrives : IsShare f → (d : List Ran) (e : List ℕ) (p : ℕ) (q v : List ℕ) → Leads f (Chunk_comes d e p q v)
       (from_back f (shape f (Chunk_comes d e p q v)) (f.member_of p) (Chunk (chunk_of f p (after f (d ++ served f (e ++ if_mine f p)))) ∷ [])) []

@@ -65,10 +65,9 @@ module _ {R : Type 0} (f : UnitShare R) where
           (append-nil n);
       early_is = simp orders;
       late_is = simp orders;
-      longer = λ k _. elim (k == j) as (λ t. IsFront (cond (is_going (at k)) (b k) n) (cond (is_going (cond t Coming (at k))) (b k) n)) [
-        | true ↦ elim (is_going (at k)) as (λ g. IsFront (cond g (b k) n) n) [ true ↦ h.fronts k | false ↦ front_same n ]
-        | false ↦ front_same (cond (is_going (at k)) (b k) n)
-      ];
+      longer = λ k _. split (k == j) (λ t. IsFront (cond (is_going (at k)) (b k) n) (cond (is_going (cond t Coming (at k))) (b k) n))
+          (λ _. elim (is_going (at k)) as (λ g. IsFront (cond g (b k) n) n) [ true ↦ h.fronts k | false ↦ front_same n ])
+          (λ _. front_same (cond (is_going (at k)) (b k) n));
     }
 
     -- one answer fewer is waited for
@@ -108,10 +107,8 @@ module _ {R : Type 0} (f : UnitShare R) where
     quiet_back turn e = cc
 
     gone_back : (j : ℕ) → ((k : ℕ) → is_pending (put at j Quiet k) ≡ false) → (k : ℕ) → cond (k == j) [] (comes_from {R = R} (at k)) ≡ []
-    gone_back j off k = elim (k == j) as (λ t. is_pending (cond t Quiet (at k)) ≡ false → cond t [] (comes_from {R = R} (at k)) ≡ []) [
-      | true ↦ λ _. refl
-      | false ↦ λ p. quiet_back (at k) p
-    ] (off k)
+    gone_back j off k = split (k == j) (λ t. is_pending (cond t Quiet (at k)) ≡ false → cond t [] (comes_from {R = R} (at k)) ≡ []) (λ _. λ _. refl)
+        (λ _. λ p. quiet_back (at k) p) (off k)
 
     -- what sees no difference between an answer on its way and none
     quiet_as : {X : Type 0} (j : ℕ) → at j ≡ Coming → (g : Turn → X) → g Coming ≡ g Quiet → (k : ℕ) → g (at k) ≡ g (put at j Quiet k)

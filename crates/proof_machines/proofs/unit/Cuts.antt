@@ -1,7 +1,7 @@
 -- A source's records, cut into pieces: each unit sees its record in exactly one of them, and the last alone has the mark.
 use Rattle.proof_machines.proofs.unit.Words.{◌≡◌, ℕ, suc, zero, true, false, Option, Some, None, List, [], ◌∷◌, ◌++◌, map, length, take, drop, refl, sym, ap}
 use Rattle.proof_machines.proofs.unit.Words.{◌∙◌, append-nil, take-append-drop, if◌then◌else◌, ◌==◌, option_to_list, nat_le, same_unit, is_nil, Piece}
-use Rattle.proof_machines.proofs.unit.Words.{ArePiecesOf, records, closes, first, nil_left, nil_right, first_of_one, Unit, by_if}
+use Rattle.proof_machines.proofs.unit.Words.{ArePiecesOf, records, closes, first, nil_left, nil_right, first_of_one, Unit, by_if, split}
 use Rattle.proof_machines.proofs.unit.Real.{Chunks, record_at, RPiece, Msg, M_piece, Frame, see, view}
 
 -- all records of a unit in chunks
@@ -37,18 +37,14 @@ is_nil-chop (suc n) xs =
 pub all_at-append : {R : Type 0} (u : Unit) (x y : Chunks R) → all_at u (x ++ y) ≡ all_at u x ++ all_at u y
 all_at-append u [] y = refl
 all_at-append u (c ∷ x) y =
-    elim (same_unit u c.0) as (λ b. (if b then c.1 ∷ all_at u (x ++ y) else all_at u (x ++ y)) ≡ (if b then c.1 ∷ all_at u x else all_at u x) ++ all_at u y) [
-      | true ↦ ap (λ z. c.1 ∷ z) (all_at-append u x y)
-      | false ↦ all_at-append u x y
-    ]
+    split (same_unit u c.0) (λ b. (if b then c.1 ∷ all_at u (x ++ y) else all_at u (x ++ y)) ≡ (if b then c.1 ∷ all_at u x else all_at u x) ++ all_at u y)
+    (λ _. ap (λ z. c.1 ∷ z) (all_at-append u x y)) (λ _. all_at-append u x y)
 
 pub record_first : {R : Type 0} (u : Unit) (x : Chunks R) → record_at u x ≡ first (all_at u x)
 record_first u [] = refl
 record_first u (c ∷ x) =
-    elim (same_unit u c.0) as (λ b. (if b then Some c.1 else record_at u x) ≡ first (if b then c.1 ∷ all_at u x else all_at u x)) [
-      | true ↦ refl
-      | false ↦ record_first u x
-    ]
+    split (same_unit u c.0) (λ b. (if b then Some c.1 else record_at u x) ≡ first (if b then c.1 ∷ all_at u x else all_at u x)) (λ _. refl)
+    (λ _. record_first u x)
 
 -- the parts of a list of at most one are such lists
 halves : {R : Type 0} (x y : List R) (o : Option R) → x ++ y ≡ option_to_list o

@@ -5,6 +5,7 @@ use Rattle.std.specs.Prelude.{if◌then◌else◌, is_some}
 use Rattle.std.specs.List.{filter_map, cons_option}
 use Rattle.std.proofs.lemmas.List.Elements.{filter_map-append}
 use Rattle.proof_machines.proofs.unit.Machine.{Where, Ran, on, Steps, runs, Part, Item, Carry, Pass, Event, Piece, Deleted, is_nil}
+use Rattle.proof_machines.proofs.Tests.{split}
 
 pub nil_is : {X : Type 0} (xs : List X) → is_nil xs ≡ true → xs ≡ []
 nil_is [] e = refl
@@ -52,18 +53,14 @@ plains (x ∷ xs) = if x.0 then plains xs else x.1 ∷ plains xs
 pub passes-append : (xs ys : List (Bool × ℕ)) → passes (xs ++ ys) ≡ passes xs ++ passes ys
 passes-append [] ys = refl
 passes-append (x ∷ xs) ys =
-    elim x.0 as (λ b. (if b then x.1 ∷ passes (xs ++ ys) else passes (xs ++ ys)) ≡ (if b then x.1 ∷ passes xs else passes xs) ++ passes ys) [
-      | true ↦ ap (λ z. x.1 ∷ z) (passes-append xs ys)
-      | false ↦ passes-append xs ys
-    ]
+    split x.0 (λ b. (if b then x.1 ∷ passes (xs ++ ys) else passes (xs ++ ys)) ≡ (if b then x.1 ∷ passes xs else passes xs) ++ passes ys)
+    (λ _. ap (λ z. x.1 ∷ z) (passes-append xs ys)) (λ _. passes-append xs ys)
 
 pub plains-append : (xs ys : List (Bool × ℕ)) → plains (xs ++ ys) ≡ plains xs ++ plains ys
 plains-append [] ys = refl
 plains-append (x ∷ xs) ys =
-    elim x.0 as (λ b. (if b then plains (xs ++ ys) else x.1 ∷ plains (xs ++ ys)) ≡ (if b then plains xs else x.1 ∷ plains xs) ++ plains ys) [
-      | true ↦ plains-append xs ys
-      | false ↦ ap (λ z. x.1 ∷ z) (plains-append xs ys)
-    ]
+    split x.0 (λ b. (if b then plains (xs ++ ys) else x.1 ∷ plains (xs ++ ys)) ≡ (if b then plains xs else x.1 ∷ plains xs) ++ plains ys)
+    (λ _. plains-append xs ys) (λ _. ap (λ z. x.1 ∷ z) (plains-append xs ys))
 
 pub passes-passing : (xs : List ℕ) → passes (map passing xs) ≡ xs
 passes-passing [] = refl

@@ -17,18 +17,14 @@ use Rattle.proof_machines.proofs.unit.Real.{add, view, only_mine, see_phase, sen
 pub record_at-append : {R : Type 0} (u : Unit) (x y : Chunks R) → record_at u (x ++ y) ≡ or_own (record_at u x) (record_at u y)
 record_at-append u [] y = refl
 record_at-append u (c ∷ x) y =
-    elim (same_unit u c.0) as (λ b. (if b then Some c.1 else record_at u (x ++ y)) ≡ or_own (if b then Some c.1 else record_at u x) (record_at u y)) [
-      | true ↦ refl
-      | false ↦ record_at-append u x y
-    ]
+    split (same_unit u c.0) (λ b. (if b then Some c.1 else record_at u (x ++ y)) ≡ or_own (if b then Some c.1 else record_at u x) (record_at u y)) (λ _. refl)
+    (λ _. record_at-append u x y)
 
 pub is_among-units : {R : Type 0} (u : Unit) (x : Chunks R) → is_among (map chunk_unit x) u ≡ is_some (record_at u x)
 is_among-units u [] = refl
 is_among-units u (c ∷ x) =
-    elim (same_unit u c.0) as (λ b. (b || is_among (map chunk_unit x) u) ≡ is_some (if b then Some c.1 else record_at u x)) [
-      | true ↦ refl
-      | false ↦ is_among-units u x
-    ]
+    split (same_unit u c.0) (λ b. (b || is_among (map chunk_unit x) u) ≡ is_some (if b then Some c.1 else record_at u x)) (λ _. refl)
+    (λ _. is_among-units u x)
 
 pub record_at-pieces : {R : Type 0} (v : Frame) (ps : List (RPiece R)) → record_at v.unit (chunks_of ps) ≡ pick (map (see v) ps)
 record_at-pieces v [] = refl
@@ -37,11 +33,8 @@ record_at-pieces v (p ∷ ps) = record_at-append v.unit p.chunks (chunks_of ps) 
 pub only_mine-append : (v : Frame) (x y : List ℕ) → only_mine v (x ++ y) ≡ only_mine v x ++ only_mine v y
 only_mine-append v [] y = refl
 only_mine-append v (p ∷ x) y =
-    elim (v.mine p)
-    as (λ b. (if b then p ∷ only_mine v (x ++ y) else only_mine v (x ++ y)) ≡ (if b then p ∷ only_mine v x else only_mine v x) ++ only_mine v y) [
-      | true ↦ ap (λ z. p ∷ z) (only_mine-append v x y)
-      | false ↦ only_mine-append v x y
-    ]
+    split (v.mine p) (λ b. (if b then p ∷ only_mine v (x ++ y) else only_mine v (x ++ y)) ≡ (if b then p ∷ only_mine v x else only_mine v x) ++ only_mine v y)
+    (λ _. ap (λ z. p ∷ z) (only_mine-append v x y)) (λ _. only_mine-append v x y)
 
 pub add-append : {X : Type 0} (o : Option X) (x y : List X) → add o (x ++ y) ≡ add o x ++ y
 add-append None x y = refl
@@ -54,11 +47,8 @@ view-append v (m ∷ x) y = ap (λ z. add (seen v m) z) (view-append v x y) ∙ 
 pub sent_for-append : {M : Type 0} (r : ℕ) (x y : List (ℕ × M)) → sent_for r (x ++ y) ≡ sent_for r x ++ sent_for r y
 sent_for-append r [] y = refl
 sent_for-append r (m ∷ x) y =
-    elim (m.0 == r)
-    as (λ b. (if b then m.1 ∷ sent_for r (x ++ y) else sent_for r (x ++ y)) ≡ (if b then m.1 ∷ sent_for r x else sent_for r x) ++ sent_for r y) [
-      | true ↦ ap (λ z. m.1 ∷ z) (sent_for-append r x y)
-      | false ↦ sent_for-append r x y
-    ]
+    split (m.0 == r) (λ b. (if b then m.1 ∷ sent_for r (x ++ y) else sent_for r (x ++ y)) ≡ (if b then m.1 ∷ sent_for r x else sent_for r x) ++ sent_for r y)
+    (λ _. ap (λ z. m.1 ∷ z) (sent_for-append r x y)) (λ _. sent_for-append r x y)
 
 -- many messages to one receiver
 all_to : {M X : Type 0} (r s : ℕ) (g : X → M) (xs : List X) → (s == r) ≡ true → sent_for r (map (λ x. (s, g x)) xs) ≡ map g xs
@@ -103,23 +93,17 @@ module _ {R : Type 0} (o : Op) (mine : ℕ → Bool) (u : Unit) (t : NodesDiffer
   view_to_b [] = refl
   view_to_b (p ∷ f) =
       let a = t.dst_src in let b = t.dst in
-      elim (mine p) as (λ c.
-      add (where_true c (sends_to (frame_of o mine u) o.dst (fwd {R = R} p))) (view (frame_of o mine u) (map (r_fwd {R = R} o.dst) f))
-      ≡ map (λ p. fwd p At_b) (if c then p ∷ only_mine (frame_of o mine u) f else only_mine (frame_of o mine u) f)) [
-        | true ↦ rw (a, b) (ap (λ z. Forward At_b p ∷ z) (view_to_b f))
-        | false ↦ view_to_b f
-      ]
+      split (mine p) (λ c. add (where_true c (sends_to (frame_of o mine u) o.dst (fwd {R = R} p))) (view (frame_of o mine u) (map (r_fwd {R = R} o.dst) f))
+      ≡ map (λ p. fwd p At_b) (if c then p ∷ only_mine (frame_of o mine u) f else only_mine (frame_of o mine u) f))
+      (λ _. rw (a, b) (ap (λ z. Forward At_b p ∷ z) (view_to_b f))) (λ _. view_to_b f)
 
   view_to_a : (f : List ℕ) → view (frame_of o mine u) (map (r_fwd {R = R} o.src) f) ≡ map (λ p. fwd p At_a) (only_mine (frame_of o mine u) f)
   view_to_a [] = refl
   view_to_a (p ∷ f) =
       let a = t.src in
-      elim (mine p) as (λ c.
-      add (where_true c (sends_to (frame_of o mine u) o.src (fwd {R = R} p))) (view (frame_of o mine u) (map (r_fwd {R = R} o.src) f))
-      ≡ map (λ p. fwd p At_a) (if c then p ∷ only_mine (frame_of o mine u) f else only_mine (frame_of o mine u) f)) [
-        | true ↦ rw a (ap (λ z. Forward At_a p ∷ z) (view_to_a f))
-        | false ↦ view_to_a f
-      ]
+      split (mine p) (λ c. add (where_true c (sends_to (frame_of o mine u) o.src (fwd {R = R} p))) (view (frame_of o mine u) (map (r_fwd {R = R} o.src) f))
+      ≡ map (λ p. fwd p At_a) (if c then p ∷ only_mine (frame_of o mine u) f else only_mine (frame_of o mine u) f))
+      (λ _. rw a (ap (λ z. Forward At_a p ∷ z) (view_to_a f))) (λ _. view_to_a f)
 
   -- nothing is sent
   pub quiet : (phase : RPhase R) (f : List ℕ) → Sees (frame_of o mine u) (record { phase = phase; store = f; sends = [] })
@@ -275,10 +259,7 @@ module _ {R : Type 0} (o : Op) (mine : ℕ → Bool) (u : Unit) (t : NodesDiffer
   pub from_destination_seen : (phase : RPhase R) (f : List ℕ) (m : Msg R) → Numbered m
       → Sees (frame_of o mine u) (r_from_destination o phase f m) (did_b phase f (seen (frame_of o mine u) m))
   from_destination_seen phase f (M_event n p) h =
-      elim (mine p) as (λ b. Sees (frame_of o mine u) (r_goes phase f []) (did_b phase f (where_true b (Event p)))) [
-        | true ↦ quiet phase f
-        | false ↦ quiet phase f
-      ]
+      split (mine p) (λ b. Sees (frame_of o mine u) (r_goes phase f []) (did_b phase f (where_true b (Event p)))) (λ _. quiet phase f) (λ _. quiet phase f)
   from_destination_seen phase f (M_enabled n) h = let e = by_num Enabled in rw (h, e) (destination_enabled_follows (follows o.keep f) phase)
   from_destination_seen phase f (M_piece n p) h = let e = by_num (Piece (see (frame_of o mine u) p)) in rw (h, e) (quiet phase f)
   from_destination_seen phase f (M_deleted n) h = let e = by_num Deleted in rw (h, e) (quiet phase f)

@@ -5,7 +5,7 @@ use Rattle.proof_machines.proofs.net.Words.{if◌then◌else◌, ◌&&◌, ◌==
 use Rattle.proof_machines.proofs.net.Words.{MoveAsked, Sys, IsSys, sw_target, sw_next, OpLabel, Rest, NothingOf, Disjoint, TakesSome, GlobalAll, unit_share}
 use Rattle.proof_machines.proofs.net.Words.{as_share, Any, Old, New, S_asked, WantShare, olds, Sharing, IsSharing, OpenShare, find_share, WholeWorld, moves_of}
 use Rattle.proof_machines.proofs.net.Words.{whole_inst, whole_ctrl, whole_switch, whole_input, asks, begin_move, begin_share, puts_get, keeps, meets_shares}
-use Rattle.proof_machines.proofs.net.Words.{MayShare, SeeingShare, same_unit, either_way, Unit}
+use Rattle.proof_machines.proofs.net.Words.{MayShare, SeeingShare, same_unit, either_way, Unit, split}
 use Rattle.proof_machines.proofs.unit.Loose.{times-append}
 use Rattle.proof_machines.proofs.net.Ctrl.{each_found}
 use Rattle.proof_machines.proofs.net.Units.{Where, Where.At_rest, Where.In_move, May, see, switch_where}
@@ -43,10 +43,8 @@ found_takes S (x ∷ es) n e v is on = either_way (S.takes x.filter v) (λ t. (x
     (λ off. let more = later off (λ there. found_takes S es n e v there on) in (more.0, rw off more.1))
   where
     later : S.takes x.filter v ≡ false → (find_share es n ≡ Some e → TakesSome S es v) → TakesSome S es v
-    later off others = elim (x.num == n) as (λ a. (if a then Some x else find_share es n) ≡ Some e → TakesSome S es v) [
-      | true ↦ λ there. let same : x ≡ e = cc in let never : true ≡ false = sym on ∙ ap (λ y. S.takes y.filter v) (sym same) ∙ off in cc
-      | false ↦ others
-    ] is
+    later off others = split (x.num == n) (λ a. (if a then Some x else find_share es n) ≡ Some e → TakesSome S es v)
+        (λ _. λ there. let same : x ≡ e = cc in let never : true ≡ false = sym on ∙ ap (λ y. S.takes y.filter v) (sym same) ∙ off in cc) (λ _. others) is
 
 module _ {R : Type 0} (S : Sys R) (A : Sharing S) (laws : IsSys S) (u : Unit) where
   -- under a share `b` says whether a loose move once handed the unit on: a share never does
