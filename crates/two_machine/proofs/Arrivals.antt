@@ -1,17 +1,10 @@
 -- What each step notes of arrivals, and where the input and its end are.
-use Rattle.std.proofs.Common.{◌≡◌, ℕ, Bool, true, false, List, [], ◌∷◌, ◌++◌, refl, sym, ap, ◌∙◌, append-nil}
-use Rattle.std.specs.Prelude.{if◌then◌else◌, ◌==◌}
-use Rattle.two_machine.proofs.Machine.{Free, Target, To_a, To_both, To_b}
-use Rattle.two_machine.proofs.Tables
-use Rattle.two_machine.proofs.Tables.{System, Msg, Switch, Ctrl, Inst, In_packet, In_start, In_end, Start, End, Copied, Laid, Forward, Lay, Finish, Carry}
-use Rattle.two_machine.proofs.Tables.{Stop, Fence, Credit, goes, switch_step, processed, all_processed, inst_step, ctrl_step, takes_in, Step}
-use Rattle.two_machine.proofs.View.{World, Observer, read, read-append, arrived, item}
-use Rattle.two_machine.proofs.Places.{Place, Cs, In, Sc, Aw, Bw, Ac, Bc, Sa, Ca, Sb, Cb, choice, with_waits, comes}
-use Rattle.two_machine.proofs.Labels.{IsSelected, OnBack, Label}
+use Rattle.two_machine.proofs.Words.{◌≡◌, ℕ, Bool, true, false, List, [], ◌∷◌, ◌++◌, refl, sym, ap, ◌∙◌, append-nil, if◌then◌else◌, ◌==◌, Free, Target, To_a}
+use Rattle.two_machine.proofs.Words.{To_both, To_b, System, Msg, Switch, Ctrl, Inst, In_packet, In_start, In_end, Start, End, Copied, Laid, Forward, Lay}
+use Rattle.two_machine.proofs.Words.{Finish, Carry, Stop, Fence, Credit, goes, switch_step, processed, all_processed, inst_step, ctrl_step, takes_in, Step}
+use Rattle.two_machine.proofs.Words.{World, Observer, read, read-append, arrived, item, Place, Cs, In, Sc, Aw, Bw, Ac, Bc, Sa, Ca, Sb, Cb, choice, with_waits}
+use Rattle.two_machine.proofs.Words.{comes, IsSelected, OnBack, Label, sent, result, copied, Each, each-append}
 use Rattle.two_machine.proofs.Rows.{Carried, Runs, carried, kind}
-use Rattle.two_machine.proofs.Puts.{sent, result}
-use Rattle.two_machine.proofs.Shapes.{copied}
-use Rattle.actor_net.proofs.WeightLaws.{Each, each-append}
 use Rattle.two_machine.proofs.StepLabels.{ctrl_ok, ended_by, gives}
 
 -- the packets of an input
@@ -71,10 +64,6 @@ module _ {U T C R O : Type 0} (S : System U T C R O) where
   goes_notes : (t : Target) (s : Switch) (p : ℕ) → read arrived (goes S t s p).notes ≡ p ∷ []
   goes_notes To_a s p = refl
   goes_notes t s p = refl
-
-  lay_notes : (high : Bool) → read (arrived {O = O}) ((if high then Tables.High else Tables.Low) ∷ []) ≡ []
-  lay_notes true = refl
-  lay_notes false = refl
 
   in_notes : (s : Switch) (m : Msg C) → Label S In m → takes_in S s m ≡ true → read arrived (switch_step S s m).notes ≡ comes In m
   in_notes s (In_packet p) h ready = rw ready (goes_notes (if S.covers p then s.target else To_a) s p)

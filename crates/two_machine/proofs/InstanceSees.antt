@@ -1,16 +1,13 @@
 -- What is seen of a step of an instance or of the switch is the machine's.
-use Rattle.std.proofs.Common.{◌≡◌, ◌≢◌, ℕ, Bool, true, false, Option, Some, None, List, [], ◌∷◌, ◌++◌, refl, sym, ap, ◌∙◌, append_assoc, append-nil}
-use Rattle.std.specs.Prelude.{if◌then◌else◌, ◌==◌, is_some}
-use Rattle.std.proofs.lemmas.Bool.{false≢true}
+use Rattle.two_machine.proofs.Words.{◌≡◌, ◌≢◌, ℕ, Bool, true, false, Option, Some, None, List, [], ◌∷◌, ◌++◌, refl, sym, ap, ◌∙◌, append_assoc, append-nil}
+use Rattle.two_machine.proofs.Words.{if◌then◌else◌, ◌==◌, is_some, false≢true, Rule, Free, Drops, Buffers, Target, To_a, To_both, To_b, State, stepped, folded}
+use Rattle.two_machine.proofs.Words.{System, Laws, Inst, Step, processed, all_processed, ruled, inst_step, goes, switch_step, World, Observer, Nobody, Of_unit}
+use Rattle.two_machine.proofs.Words.{read-append, frame, own, inside, IsTaken, view, IsSelected, put_switch, put_a, put_b, Each}
 use Rattle.two_machine.proofs.Machine as m
-use Rattle.two_machine.proofs.Machine.{Rule, Free, Drops, Buffers, Target, To_a, To_both, To_b, State, stepped, folded}
-use Rattle.two_machine.proofs.Tables.{System, Laws, Inst, Step, processed, all_processed, ruled, on_pass, on_fence, inst_step, goes, switch_step}
+use Rattle.two_machine.proofs.Tables.{on_pass, on_fence}
 use Rattle.two_machine.proofs.Tables as t
-use Rattle.two_machine.proofs.View.{World, Observer, Nobody, Of_unit, read-append, is_of, frame, own, inside, IsTaken, view}
-use Rattle.two_machine.proofs.Labels.{IsSelected}
-use Rattle.two_machine.proofs.Puts.{put_switch, put_a, put_b}
+use Rattle.two_machine.proofs.View.{is_of}
 use Rattle.two_machine.proofs.ControllerSees.{reads}
-use Rattle.actor_net.proofs.WeightLaws.{Each}
 
 module _ {U T C R O : Type 0} (S : System U T C R O) (laws : Laws S) (o : Observer U) (taken : IsTaken S o) where
   -- a packet that the filter doesn't match isn't the observer's

@@ -1,9 +1,7 @@
 -- Laws on lists for the steps of the machine: folds, copies, the last of a list, numbers that rise.
-use Rattle.std.proofs.Common.{◌≡◌, ◌<◌, ℕ, true, Option, Some, None, List, [], ◌∷◌, ◌++◌, refl, sym, ap, arith}
-use Rattle.std.proofs.lemmas.Bool.Decides.{Decides-eqb}
-use Rattle.two_machine.proofs.Machine.{Item, Copied, Frame, stepped, folded, same}
-use Rattle.two_machine.proofs.Stages.{last_of, Rises}
-use Rattle.two_machine.proofs.Shapes.{copies, copied}
+use Rattle.two_machine.proofs.Words.{◌≡◌, ◌<◌, ℕ, true, Option, Some, None, List, [], ◌∷◌, ◌++◌, refl, sym, ap, arith, Decides-eqb, Item, Frame, stepped}
+use Rattle.two_machine.proofs.Words.{folded, same, last_of, Rises, copies, copied}
+use Rattle.two_machine.proofs.Machine.{Copied}
 
 pub folded-append : {R : Type 0} (f : Frame R) (r : Option R) (xs ys : List ℕ) → folded f r (xs ++ ys) ≡ folded f (folded f r xs) ys
 folded-append f r [] ys = refl

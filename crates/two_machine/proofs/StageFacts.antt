@@ -1,13 +1,9 @@
 -- What every stage tells of the machine's state: packets on their way are such as the filter matches, B has no rule that drops, and has no
 -- record where one is to be restored.
-use Rattle.std.proofs.Common.{◌≡◌, ◌≢◌, ℕ, Bool, true, false, Option, None, List, [], ◌∷◌, ◌++◌, refl}
-use Rattle.std.specs.Prelude.{if◌then◌else◌}
-use Rattle.two_machine.proofs.Machine.{Drops, Item, Restore, Frame, State}
-use Rattle.two_machine.proofs.Stages.{Early, Not_begun, Restored_comes, Hold_goes, Held_comes, Fence_goes, Stage, Before, Storing, Passing, Turned, Ends}
-use Rattle.two_machine.proofs.Stages.{path}
-use Rattle.two_machine.proofs.View.{those}
-use Rattle.two_machine.proofs.Shapes.{shape}
-use Rattle.actor_net.proofs.WeightLaws.{Each}
+use Rattle.two_machine.proofs.Words.{◌≡◌, ◌≢◌, ℕ, Bool, true, false, Option, None, List, [], ◌∷◌, ◌++◌, refl, if◌then◌else◌, Drops, Item, Frame, State, Early}
+use Rattle.two_machine.proofs.Words.{Not_begun, Restored_comes, Hold_goes, Held_comes, Fence_goes, Stage, Before, Storing, Passing, Turned, Ends, path, those}
+use Rattle.two_machine.proofs.Words.{shape, Each}
+use Rattle.two_machine.proofs.Machine.{Restore}
 
 pub each_front : {M : Type 0} (P : M → Type 0) (xs ys : List M) → Each P (xs ++ ys) → Each P xs
 each_front P [] ys h = tt

@@ -1,17 +1,11 @@
 -- Which message an enabled choice takes, and what is known of the world without it.
-use Rattle.std.proofs.Common.{◌≡◌, ◌≢◌, ℕ, zero, suc, true, false, Some, List, [], ◌∷◌, ◌++◌, refl, ap, arith}
-use Rattle.std.specs.Prelude.{◌==◌, nat_lt}
-use Rattle.std.proofs.lemmas.Bool.{false≢true}
-use Rattle.std.proofs.lemmas.Bool.Decides.{nat_tests}
-use Rattle.actor_net.specs.declared.choice.Choice.{Choice}
-use Rattle.actor_net.specs.Network.{queue_at, takes_first, is_enabled}
-use Rattle.two_machine.proofs.Machine.{Drops}
-use Rattle.two_machine.proofs.Tables.{System, Msg, Node, Is_switch, Is_ctrl, Is_inst, In_packet, In_start, In_end, node_ready}
-use Rattle.two_machine.proofs.View.{World, net, read}
-use Rattle.two_machine.proofs.Labels.{IsSelected, Label, Labels}
-use Rattle.actor_net.proofs.WeightLaws.{Each}
-use Rattle.two_machine.proofs.Places.{Place, In, Cs, Aw, Bw, Sc, Ac, Bc, Sa, Ca, Sb, Cb, choice, waits, with_waits, comes}
-use Rattle.two_machine.proofs.Puts.{result}
+use Rattle.two_machine.proofs.Words.{◌≡◌, ◌≢◌, ℕ, suc, true, false, Some, List, [], ◌∷◌, ◌++◌, refl, ap, arith, ◌==◌, false≢true, nat_tests, Choice}
+use Rattle.two_machine.proofs.Words.{is_enabled, Drops, System, Msg, Node, Is_switch, Is_ctrl, Is_inst, In_packet, In_start, In_end, node_ready, World, net}
+use Rattle.two_machine.proofs.Words.{read, IsSelected, Label, Labels, Each, Place, In, Cs, Aw, Bw, Sc, Ac, Bc, Sa, Ca, Sb, Cb, choice, waits, with_waits}
+use Rattle.two_machine.proofs.Words.{comes, result}
+use Rattle.std.proofs.Common.{zero}
+use Rattle.std.specs.Prelude.{nat_lt}
+use Rattle.actor_net.specs.Network.{queue_at, takes_first}
 use Rattle.two_machine.proofs.Arrivals.{coming, Ready}
 
 module _ {U T C R O : Type 0} (S : System U T C R O) where
@@ -114,10 +108,6 @@ module _ {U T C R O : Type 0} (S : System U T C R O) where
   pub rule_there : (pl : Place) (v : World T C O) (xs : List (Msg C)) → (with_waits S pl xs v).b.rule ≢ Drops → v.b.rule ≢ Drops
   rule_there In v xs h = h
   rule_there pl v xs h = h
-
-  pub ready_there : (pl : Place) (v : World T C O) (x : Msg C) (xs : List (Msg C)) → Ready S pl (with_waits S pl xs v) x → Ready S pl v x
-  ready_there In v x xs h = h
-  ready_there pl v x xs h = tt
 
   -- the packets that still stand in the input
   pub left_in : (pl : Place) (v : World T C O) (x : Msg C) (xs : List (Msg C)) → Label S pl x
