@@ -103,8 +103,6 @@ module _ {U T C R O : Type 0} (S : System U T C R O) where
       → read arrived (result S pl (with_waits S pl rest v) m).log ≡ read arrived v.log ++ comes pl m
   arrivals In v m rest h ready k = read-append arrived v.log (switch_step S v.sw m).notes ∙ ap (λ xs. read arrived v.log ++ xs) (in_notes v.sw m h ready)
   arrivals Cs v m rest h ready k = read-append arrived v.log (switch_step S v.sw m).notes ∙ ap (λ xs. read arrived v.log ++ xs) (cs_notes v.sw m h)
-  arrivals Aw v m rest h ready k = read-append arrived v.log (switch_step S v.sw m).notes ∙ ap (λ xs. read arrived v.log ++ xs) (back_notes v.sw m h)
-  arrivals Bw v m rest h ready k = read-append arrived v.log (switch_step S v.sw m).notes ∙ ap (λ xs. read arrived v.log ++ xs) (back_notes v.sw m h)
   arrivals Sc v m rest h ready k =
       read-append arrived v.log (ctrl_step S v.ct 0 m).notes ∙ ap (λ xs. read arrived v.log ++ xs) (ctrl_ok S v.ct 0 m k (gives S Sc m h)).quiet
   arrivals Ac v m rest h ready k =
@@ -115,12 +113,12 @@ module _ {U T C R O : Type 0} (S : System U T C R O) where
   arrivals Ca v m rest h ready k = read-append arrived v.log (inst_step S 0 v.a m).notes ∙ ap (λ xs. read arrived v.log ++ xs) (inst_notes 0 v.a m)
   arrivals Sb v m rest h ready k = read-append arrived v.log (inst_step S 1 v.b m).notes ∙ ap (λ xs. read arrived v.log ++ xs) (inst_notes 1 v.b m)
   arrivals Cb v m rest h ready k = read-append arrived v.log (inst_step S 1 v.b m).notes ∙ ap (λ xs. read arrived v.log ++ xs) (inst_notes 1 v.b m)
+  arrivals x v m rest h ready k = read-append arrived v.log (switch_step S v.sw m).notes ∙ ap (λ xs. read arrived v.log ++ xs) (back_notes v.sw m h)
 
   -- the end
   goes_sc : (t : Target) (s : Switch) (p : ℕ) → Each NotEnd (sent 1 (goes S t s p).sends)
-  goes_sc To_a s p = tt
   goes_sc To_both s p = (tt, tt)
-  goes_sc To_b s p = tt
+  goes_sc x s p = tt
 
   end_in : (v : World T C O) (m : Msg C) (rest : List (Msg C)) → Label S In m → takes_in S v.sw m ≡ true → EndAt (with_waits S In (m ∷ rest) v)
       → EndAt (result S In (with_waits S In rest v) m)

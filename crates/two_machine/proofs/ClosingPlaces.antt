@@ -17,14 +17,11 @@ module _ {U T C R O : Type 0} (S : System U T C R O) where
   in_signs : (v : World T C O) (p : ℕ) (b : Bool) (t : Target)
       → seen_signs S (put_switch S v (if b then goes S t v.sw p else still S v.sw)) ≡ seen_signs S v
   in_signs v p true To_a = simp reads
-  in_signs v p true To_both = simp reads
-  in_signs v p true To_b = simp reads
-  in_signs v p false t = simp reads
+  in_signs v p x t = simp reads
 
   a_signs : (v : World T C O) {p : ℕ} {did : Step S (Inst T)} → Carried S 0 v.a p did → seen_signs S (put_a S v did) ≡ seen_signs S v
   a_signs v (Runs free) = simp reads
-  a_signs v (Hands_out drops covers) = simp reads
-  a_signs v (Held covers) = simp reads
+  a_signs v x = simp reads
 
   b_signs : (v : World T C O) {p : ℕ} {did : Step S (Inst T)} → Carried S 1 v.b p did → seen_signs S (put_b S v did) ≡ seen_signs S v
   b_signs v (Held covers) = simp reads

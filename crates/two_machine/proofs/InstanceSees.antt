@@ -55,8 +55,7 @@ module _ {U T C R O : Type 0} (S : System U T C R O) (laws : Laws S) (o : Observ
   pub carry_a : (v : World T C O) (p : ℕ) (rule : Rule) → S.covers p ≡ true
       → view S o (put_a S v (ruled S rule 0 v.a p)) ≡ m.carried_a (frame S o) rule (view S o v) p
   carry_a v p Free covers = let owned = own_processed o v.a.table p in simp (reads, owned, covers)
-  carry_a v p Drops covers = simp reads
-  carry_a v p Buffers covers = simp reads
+  carry_a v p x covers = simp reads
 
   -- and another
   pub other_a : (v : World T C O) (p : ℕ) → S.covers p ≡ false → view S o (put_a S v (processed S 0 v.a p)) ≡ view S o v
@@ -139,8 +138,7 @@ module _ {U T C R O : Type 0} (S : System U T C R O) (laws : Laws S) (o : Observ
   pub arrive : (v : World T C O) (p : ℕ) (target : Target) → S.covers p ≡ true
       → view S o (put_switch S v (goes S target v.sw p)) ≡ m.arrives (frame S o) target (view S o v) p
   arrive v p To_a covers = simp (reads, covers)
-  arrive v p To_both covers = simp (reads, covers)
-  arrive v p To_b covers = simp (reads, covers)
+  arrive v p x covers = simp (reads, covers)
 
   pub arrive_other : (v : World T C O) (p : ℕ) → S.covers p ≡ false → view S o (put_switch S v (goes S To_a v.sw p)) ≡ view S o v
   arrive_other v p covers = simp (reads, covers)

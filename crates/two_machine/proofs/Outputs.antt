@@ -204,8 +204,7 @@ module _ {U T C R O : Type 0} (S : System U T C R O) (laws : Laws S) (u : U) (it
           right_more S laws u v.log (processed S 0 v.a p).notes right
           (right_one S laws u 0 v.a.table p (record_by S laws u v.log)
           (λ own. fresh.at_a (free (cover_mine S laws u its p own)) ∙ by_log (with_waits S Sa (Carry p ∷ rest) v) h))
-      by (Hands_out drops covers) = right_none S laws u v.log [] right refl
-      by (Held covers) = right_none S laws u v.log [] right refl
+      by x = right_none S laws u v.log [] right refl
   right_sa v Stop rest l h right = right_none S laws u v.log [] right refl
   right_sa v x rest l h right = absurd l
 

@@ -50,14 +50,13 @@ module _ {R : Type 0} (f : Frame R) (P : ℕ → Type 0) where
 
   -- the packets of a stage on the links and in B's hold
   kept_there : (s : Stage) → Each P (path s) → Each P (shape f s).plains × Each P (shape f s).passes × Each P (shape f s).b.held
-  kept_there (Before n d l b) h = (tt, tt, tt)
-  kept_there (Storing n d g e l b) h = (tt, tt, tt)
   kept_there (Passing n d s z x g e l t c b) h = (tt, each_front P x (g ++ (e ++ l)) h, tt)
   kept_there (Turned n d s z x g e l t c h' y b) h =
       let first = each_front P (x ++ (g ++ (e ++ l))) (h' ++ y) h in
       let second = each_after P (x ++ (g ++ (e ++ l))) (h' ++ y) h in
       (each_after P h' y second, each_front P x (g ++ (e ++ l)) first, each_front P h' y second)
   kept_there (Ends n d s t h' y b) h = (each_after P h' y h, tt, each_front P h' y h)
+  kept_there w h = (tt, tt, tt)
 
   starts_there : (s : Stage) (i : ℕ) (k : List ℕ) → (shape f s).starts ≡ i ∷ k → k ≡ []
   starts_there (Before n d l b) i k e = before_starts n d l b i k e

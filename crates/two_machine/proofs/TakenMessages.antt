@@ -43,17 +43,12 @@ module _ {U T C R O : Type 0} (S : System U T C R O) where
   finds v zero (suc (suc zero)) on = by_link v Aw (Is_switch v.sw) v.aw refl on (λ _. tt)
   finds v zero (suc (suc (suc zero))) on = by_link v Bw (Is_switch v.sw) v.bw refl on (λ _. tt)
   finds v (suc zero) zero on = by_link v Sc (Is_ctrl v.ct) v.sc refl on (λ _. tt)
-  finds v (suc zero) (suc zero) on = absurd (false≢true on)
   finds v (suc zero) (suc (suc zero)) on = by_link v Ac (Is_ctrl v.ct) v.ac refl on (λ _. tt)
   finds v (suc zero) (suc (suc (suc zero))) on = by_link v Bc (Is_ctrl v.ct) v.bc refl on (λ _. tt)
   finds v (suc (suc zero)) zero on = by_link v Sa (Is_inst 0 v.a) v.sa refl on (λ _. tt)
   finds v (suc (suc zero)) (suc zero) on = by_link v Ca (Is_inst 0 v.a) v.ca refl on (λ _. tt)
-  finds v (suc (suc zero)) (suc (suc zero)) on = absurd (false≢true on)
-  finds v (suc (suc zero)) (suc (suc (suc zero))) on = absurd (false≢true on)
   finds v (suc (suc (suc zero))) zero on = by_link v Sb (Is_inst 1 v.b) v.sb refl on (λ _. tt)
   finds v (suc (suc (suc zero))) (suc zero) on = by_link v Cb (Is_inst 1 v.b) v.cb refl on (λ _. tt)
-  finds v (suc (suc (suc zero))) (suc (suc zero)) on = absurd (false≢true on)
-  finds v (suc (suc (suc zero))) (suc (suc (suc zero))) on = absurd (false≢true on)
   finds v zero (suc (suc (suc (suc p)))) on =
       let no_link = far p in
       let port = not_zero p in
@@ -68,7 +63,7 @@ module _ {U T C R O : Type 0} (S : System U T C R O) where
   finds v (suc (suc (suc zero))) (suc (suc (suc (suc p)))) on =
       let no_link = far p in
       nothing v 3 (suc (suc (suc (suc p)))) (Is_inst 1 v.b) (queue_at (net v) (record { node = 3; port = suc (suc (suc (suc p))) })) (rw no_link refl) on
-  finds v (suc (suc (suc (suc k)))) p on = absurd (false≢true on)
+  finds v x p on = absurd (false≢true on)
 
   -- the labels of what is taken, and of what is left
   left_standing : (pl at : Place) (v : World T C O) (x : Msg C) (rest : List (Msg C)) → Each (Label S at) (waits S at (with_waits S pl (x ∷ rest) v))

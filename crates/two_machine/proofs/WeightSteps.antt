@@ -77,9 +77,8 @@ module _ {U T C R O : Type 0} (S : System U T C R O) where
 
   carry_a : {i : Inst T} {p : ℕ} {did : Step S (Inst T)} → Carried S 0 i p did
       → length did.node.held + weigh w_one (sent 0 did.sends) + weigh w_ac (sent 1 did.sends) + 1 ≤ length i.held + 6
-  carry_a (Runs free) = omega arith
-  carry_a (Hands_out drops covers) = omega arith
   carry_a {i} {p} (Held covers) = omega (arith, length_push i.held p)
+  carry_a x = omega arith
 
   sa_costs : (i : Inst T) (m : Msg C) → Label S Sa m
       → length (inst_step S 0 i m).node.held + weigh w_one (sent 0 (inst_step S 0 i m).sends) + weigh w_ac (sent 1 (inst_step S 0 i m).sends) + 1
