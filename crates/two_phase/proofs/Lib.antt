@@ -1,13 +1,15 @@
+pub mod Words
 pub mod AlikeLists
 pub mod RecordLaws
 pub mod Outlines
 pub mod InstanceFollows
 pub mod SwitchFollows
 pub mod ControllerFollows
+pub mod ControllerTurns
 pub mod AlikeWorlds
 pub mod NumberedPackets
 pub mod RealRuns
-pub mod Words
+pub mod RealPromises
 pub mod Theorem
 pub mod OtherMessages
 pub mod PushedPackets
