@@ -18,7 +18,7 @@ use Rattle.strong_share.specs.Words.{most_choices}
 use Rattle.strong_share.proofs.Lists.{two_zero}
 use Rattle.strong_share.proofs.Scenes.{Scene, Shows, next_scene, sends_of, node_of}
 use Rattle.strong_share.proofs.Shown.{found}
-use Rattle.strong_share.proofs.ServedPackets.{one_if, Answer, Turn, Turn.Going, Turn.Coming, Turn.Quiet, is_pending, pending, Stage, Stage.Resting}
+use Rattle.strong_share.proofs.ServedPackets.{one_if, Answer, Turn, Turn.Quiet, is_pending, pending, Stage, Stage.Resting}
 use Rattle.strong_share.proofs.ServedPackets.{Stage.Carries, Stage.Tells, Stage.Spreads, chunk_after, goes_to, comes_from, to_of, answers_of, serving_of}
 use Rattle.strong_share.proofs.ServedPackets.{FitsStage}
 use Rattle.strong_share.proofs.Reading.{answer_in, end_in, stop_in}

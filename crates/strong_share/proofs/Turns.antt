@@ -1,7 +1,7 @@
 -- How many members have yet to answer, where a turn changes and where the chunk goes to all but one; and any such count where one changes.
 use Rattle.strong_share.proofs.Words.{◌≡◌, ℕ, zero, suc, ◌+◌, ◌<◌, ◌≤◌, Bool, true, false, refl, ap, arith, if◌then◌else◌, ◌==◌, nat_tests, Decides-eqb}
 use Rattle.strong_share.proofs.Lists.{put}
-use Rattle.strong_share.proofs.ServedPackets.{Turn, Turn.Going, Turn.Coming, Turn.Quiet, is_pending, one_if, count_below, pending}
+use Rattle.strong_share.proofs.ServedPackets.{Turn, Turn.Going, Turn.Quiet, is_pending, one_if, count_below, pending}
 
 -- a count after one of those that are counted changes
 module _ {X : Type 0} (test : X → Bool) (g : ℕ → X) (j : ℕ) (y : X) where

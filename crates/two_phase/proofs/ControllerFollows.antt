@@ -1,5 +1,5 @@
 -- The step of the real controller is that of the reduced one.
-use Rattle.two_phase.proofs.Words.{◌≡◌, ℕ, zero, suc, Bool, true, false, Option, Some, None, List, [], ◌∷◌, ◌++◌, refl, sym, ap, subst, ◌∙◌, arith}
+use Rattle.two_phase.proofs.Words.{◌≡◌, ℕ, zero, suc, Bool, true, false, Option, Some, List, [], ◌∷◌, ◌++◌, refl, sym, ap, subst, ◌∙◌, arith}
 use Rattle.two_phase.proofs.Words.{if◌then◌else◌, ◌==◌, ◌&&◌, ◌||◌, not, false≢true, nat_tests, FullCell, TwoMsg, ControllerState, Step, still, the_update}
 use Rattle.two_phase.proofs.Words.{forward_messages, controller_row, read, read-append}
 use Rattle.nf_msgs.specs.declared.msg.Msg.TheVariants as msg
