@@ -5,7 +5,6 @@ pub mod Outlines
 pub mod InstanceFollows
 pub mod SwitchFollows
 pub mod ControllerFollows
-pub mod ControllerTurns
 pub mod AlikeWorlds
 pub mod NumberedPackets
 pub mod RealRuns
