@@ -1,26 +1,16 @@
 -- The controller's rows for the answers of members keep what every scene of a run keeps.
-use Rattle.std.proofs.Common.{◌≡◌, ℕ, ◌+◌, ◌-◌, ◌<◌, ◌≤◌, Bool, true, false, List, [], ◌∷◌, ◌++◌, refl, sym, ap, subst, ◌∙◌, append-nil, arith}
-use Rattle.std.specs.Prelude.{if◌then◌else◌, ◌==◌, nat_lt, filter, flat_map}
-use Rattle.std.proofs.lemmas.Bool.Decides.{nat_tests, Decides-eqb, Decides-ltb}
-use Rattle.nf_function.specs.declared.chunk.Chunk.{Chunk}
-use Rattle.nf_function.specs.Records.{Laws}
-use Rattle.nf_function.specs.Semantics.{Semantics}
-use Rattle.nf_msgs.specs.declared.msg.Msg.{Msg}
-use Rattle.nf_msgs.specs.declared.msg.Msg.TheVariants.{Shared, Synced, Final}
-use Rattle.actor_net.specs.Histories.{sent_for}
-use Rattle.strong_share.specs.declared.serving.Serving.TheVariants.{Idle, Out, Syncing}
-use Rattle.strong_share.specs.Parts.{ControllerState}
-use Rattle.strong_share.specs.Tables.{ControllerStep, controller_still, serve_step, syncs, shared_row, synced_row, on_final, row_of_member}
-use Rattle.strong_share.specs.Start.{StrongJob, IsStrongJob}
-use Rattle.strong_share.specs.Words.{events_of, is_taken_at}
+use Rattle.strong_share.proofs.Words.{◌≡◌, ℕ, ◌+◌, ◌-◌, ◌<◌, ◌≤◌, Bool, true, false, List, [], ◌∷◌, ◌++◌, refl, sym, ap, subst, ◌∙◌, append-nil, arith}
+use Rattle.strong_share.proofs.Words.{if◌then◌else◌, ◌==◌, nat_lt, filter, flat_map, nat_tests, Decides-eqb, Decides-ltb, Chunk, Laws, Semantics, Msg, Shared}
+use Rattle.strong_share.proofs.Words.{Synced, Final, sent_for, Idle, Out, Syncing, ControllerState, ControllerStep, controller_still, serve_step, syncs}
+use Rattle.strong_share.proofs.Words.{row_of_member, StrongJob, IsStrongJob, events_of, is_taken_at}
+use Rattle.strong_share.specs.Tables.{shared_row, synced_row, on_final}
 use Rattle.strong_share.proofs.Lists.{put, two_one, two_zero}
 use Rattle.strong_share.proofs.Scenes.{Scene, controller_did}
 use Rattle.strong_share.proofs.ServedPackets.{Sight, Agrees, serves_alike, tight_alike, rests_serves, serving_of}
 use Rattle.strong_share.proofs.Spreading.{spread_to, told_is, IsTold, spreads, took_is, HasTaken, takes_one, takes_last}
 use Rattle.strong_share.proofs.Reading.{plain_in, event_in, answer_in, taken_first, taken_has, each_taken}
 use Rattle.strong_share.proofs.SyncSends.{syncs_sent, syncs_other}
-use Rattle.strong_share.proofs.Holding.{back_label, Labelled, Ordered, Ends}
-use Rattle.strong_share.proofs.Holding.{sight, Holds}
+use Rattle.strong_share.proofs.Holding.{back_label, Labelled, Ordered, Ends, sight, Holds}
 use Rattle.strong_share.proofs.QueueRows.{no_notes, serves_members, serve_scene, HoldsLoosely, serve_holds}
 
 -- A member has stopped.

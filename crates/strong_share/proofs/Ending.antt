@@ -1,41 +1,26 @@
 -- No run is longer than its bound, and a world of a run that isn't complete has an enabled choice.
-use Rattle.std.proofs.Common.{◌≡◌, ℕ, zero, suc, ◌+◌, ◌-◌, ◌*◌, ◌<◌, ◌≤◌, inl, inr, Bool, true, false, Option, None}
-use Rattle.std.proofs.Common.{Some, List, [], ◌∷◌, ◌++◌, length, length-append, get_or, refl, sym, ap, subst, ◌∙◌, arith}
-use Rattle.std.specs.Prelude.{if◌then◌else◌, ◌==◌, ◌&&◌, slice_get, flat_map}
-use Rattle.std.specs.declared.alloc.Global.{Global}
+use Rattle.strong_share.proofs.Words.{◌≡◌, ℕ, zero, suc, ◌+◌, ◌-◌, ◌*◌, ◌<◌, ◌≤◌, inl, inr, Bool, true, false, Option, None, Some, List, [], ◌∷◌, ◌++◌, length}
+use Rattle.strong_share.proofs.Words.{length-append, get_or, refl, sym, ap, subst, ◌∙◌, arith, if◌then◌else◌, ◌==◌, ◌&&◌, slice_get, flat_map, Global}
+use Rattle.strong_share.proofs.Words.{Decides-eqb, Decides-ltb, slice_get-get_or, Packet, Laws, Semantics, Chunk, Msg, InPacket, InEnd, Choice, Network}
+use Rattle.strong_share.proofs.Words.{IsWorld, IsRun, run, world_next, queue_at, is_done, at, NextChoice, run_induction, Each, weigh, sent_weight, StrongNote}
+use Rattle.strong_share.proofs.Words.{StrongNode, Switch, Controller, Idle, node_step, node_ready, node_ended, takes_in, is_idle, StrongJob, IsStrongJob}
+use Rattle.strong_share.proofs.Words.{input_of, first_member, StrongEnds}
 use Rattle.std.proofs.Math.Nat.{mul-suc}
-use Rattle.std.proofs.lemmas.Bool.Decides.{Decides-eqb, Decides-ltb}
-use Rattle.std.proofs.lemmas.Option.{slice_get-get_or}
-use Rattle.flow_filter.specs.declared.packet.Packet.{Packet}
-use Rattle.nf_function.specs.Records.{Laws}
-use Rattle.nf_function.specs.Semantics.{Semantics}
-use Rattle.nf_function.specs.declared.chunk.Chunk.{Chunk}
-use Rattle.nf_msgs.specs.declared.msg.Msg.{Msg}
-use Rattle.nf_msgs.specs.declared.msg.Msg.TheVariants.{InPacket, InEnd}
-use Rattle.actor_net.specs.declared.choice.Choice.{Choice}
 use Rattle.actor_net.specs.declared.schedule.Schedule.TheVariants.{First}
-use Rattle.actor_net.specs.Network.{Network, IsWorld, IsRun, run, world_next, queue_at, is_done, is_enabled}
+use Rattle.actor_net.specs.Network.{is_enabled}
 use Rattle.actor_net.specs.Schedules.{enabled_choices, pick_of}
 use Rattle.actor_net.proofs.DisabledChoices.{IsUnready, stuck_links, stuck_input}
-use Rattle.actor_net.proofs.EnabledChoices.{at}
 use Rattle.actor_net.proofs.OpeningWorlds.{opening_weight}
-use Rattle.actor_net.proofs.RunInduction.{NextChoice, run_induction, run_world}
+use Rattle.actor_net.proofs.RunInduction.{run_world}
 use Rattle.actor_net.proofs.ScheduleLaws.{picked_enabled, picked_none}
-use Rattle.actor_net.proofs.WeightLaws.{Each, weigh, total, total_after, sent_weight}
-use Rattle.strong_share.specs.declared.note.StrongNote.{StrongNote}
-use Rattle.strong_share.specs.declared.node.StrongNode.{StrongNode}
-use Rattle.strong_share.specs.declared.node.StrongNode.TheVariants.{Switch, Ctrl as Controller}
-use Rattle.strong_share.specs.declared.serving.Serving.TheVariants.{Idle}
-use Rattle.strong_share.specs.Tables.{node_step, node_ready, node_ended, takes_in, is_idle}
-use Rattle.strong_share.specs.Start.{StrongJob, IsStrongJob, input_of, first_member}
+use Rattle.actor_net.proofs.WeightLaws.{total, total_after}
 use Rattle.strong_share.specs.Words.{most_choices}
-use Rattle.strong_share.specs.Promises.{StrongEnds}
 use Rattle.strong_share.proofs.Lists.{two_zero}
 use Rattle.strong_share.proofs.Scenes.{Scene, Shows, next_scene, sends_of, node_of}
 use Rattle.strong_share.proofs.Shown.{found}
-use Rattle.strong_share.proofs.ServedPackets.{one_if, Answer, Turn, Turn.Going, Turn.Coming, Turn.Quiet, is_pending}
-use Rattle.strong_share.proofs.ServedPackets.{pending, Stage, Stage.Resting, Stage.Carries, Stage.Tells, Stage.Spreads}
-use Rattle.strong_share.proofs.ServedPackets.{chunk_after, goes_to, comes_from, to_of, answers_of, serving_of, FitsStage}
+use Rattle.strong_share.proofs.ServedPackets.{one_if, Answer, Turn, Turn.Quiet, is_pending, pending, Stage, Stage.Resting}
+use Rattle.strong_share.proofs.ServedPackets.{Stage.Carries, Stage.Tells, Stage.Spreads, chunk_after, goes_to, comes_from, to_of, answers_of, serving_of}
+use Rattle.strong_share.proofs.ServedPackets.{FitsStage}
 use Rattle.strong_share.proofs.Reading.{answer_in, end_in, stop_in}
 use Rattle.strong_share.proofs.Holding.{in_label, ends_left, Holds}
 use Rattle.strong_share.proofs.Steps.{kept}
@@ -175,9 +160,8 @@ module _ (F : Type 0) {R : Type 0} (f : Semantics R) (laws : Laws f) (alloc : Gl
     told_self j xs = ap (λ b. if b then xs else []) ((Decides-eqb j j).1 refl)
 
     quiet_turn : (k : ℕ) (t : Turn) (chunk : Chunk) → goes_to f job t k chunk ≡ [] → comes_from f job t ≡ [] → t ≡ Quiet
-    quiet_turn k Going chunk a b = cc
-    quiet_turn k Coming chunk a b = cc
     quiet_turn k Quiet chunk a b = refl
+    quiet_turn k x chunk a b = cc
 
     none_out : (s : Stage) → counted.holds.serves.stage ≡ s → FitsStage f job s → ((k : ℕ) → k < n → to_of f job s counted.holds.serves.d k ≡ [])
         → ((k : ℕ) → k < n → answers_of f job s counted.holds.serves.d k ≡ []) → serving_of f job s ≡ Idle

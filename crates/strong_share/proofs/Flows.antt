@@ -1,29 +1,15 @@
 -- What each step does to what is counted: it makes the scene lighter, and loses no cell and no member that has stopped.
-use Rattle.std.proofs.Common.{◌≡◌, ℕ, ◌+◌, ◌-◌, ◌*◌, ◌<◌, ◌≤◌, Bool, true, false, List, [], ◌∷◌, length, length-append, refl, sym, ap, subst, ◌∙◌, arith}
-use Rattle.std.specs.Prelude.{if◌then◌else◌, nat_lt}
-use Rattle.std.proofs.lemmas.Bool.Decides.{nat_tests, Decides-ltb}
-use Rattle.flow_filter.specs.declared.packet.Packet.{Packet}
-use Rattle.nf_function.specs.Records.{Laws}
-use Rattle.nf_function.specs.Semantics.{Semantics}
+use Rattle.strong_share.proofs.Words.{◌≡◌, ℕ, ◌+◌, ◌-◌, ◌*◌, ◌<◌, ◌≤◌, Bool, true, false, List, [], ◌∷◌, length, length-append, refl, sym, ap, subst, ◌∙◌}
+use Rattle.strong_share.proofs.Words.{arith, if◌then◌else◌, nat_lt, nat_tests, Decides-ltb, Packet, Laws, Semantics, FullCell, Msg, InPacket, End, Finish}
+use Rattle.strong_share.proofs.Words.{Carry, Stop, Event, Shared, Sync, Synced, Final, Credit, instance_node, InstanceState, tell_step, instance_processed}
+use Rattle.strong_share.proofs.Words.{instance_step, Step, Each, weigh-append, sent_weight, each-append, QueuedPacket, ControllerState, the_share, is_home}
+use Rattle.strong_share.proofs.Words.{switch_step, takes_in, controller_step, controller_still, row_of_member, with_event, serve_step, ControllerStep}
+use Rattle.strong_share.proofs.Words.{SwitchStep, Idle, Syncing, StrongJob, IsStrongJob, packet_numbered, is_taken, member_of}
 use Rattle.event_filter.specs.declared.mark.Mark.TheVariants as mark
-use Rattle.packet_pool.specs.Pool.{FullCell}
 use Rattle.packet_window.proofs.WindowLemmas.{home_flying}
-use Rattle.nf_msgs.specs.declared.msg.Msg.{Msg}
-use Rattle.nf_msgs.specs.declared.msg.Msg.TheVariants.{InPacket, End, Finish, Carry, Stop, Event, Shared, Sync, Synced, Final, Credit}
-use Rattle.nf_msgs.specs.Nodes.{instance_node}
-use Rattle.instance_worker.specs.declared.instance.Instance.{Instance as InstanceState}
-use Rattle.instance_worker.specs.Instance.{tell_step, process_step as instance_processed, instance_step, Step}
-use Rattle.actor_net.proofs.WeightLaws.{Each, weigh-append, sent_weight, each-append}
-use Rattle.strong_share.specs.declared.queued_packet.QueuedPacket.{QueuedPacket}
-use Rattle.strong_share.specs.Parts.{ControllerState}
-use Rattle.strong_share.specs.Tables.{the_share, is_home, switch_step, takes_in, controller_step, controller_still}
-use Rattle.strong_share.specs.Tables.{row_of_member, with_event, serve_step, ControllerStep, SwitchStep}
-use Rattle.strong_share.specs.declared.serving.Serving.TheVariants.{Idle, Syncing}
-use Rattle.strong_share.specs.Start.{StrongJob, IsStrongJob}
-use Rattle.strong_share.specs.Words.{packet_numbered, is_taken, member_of}
 use Rattle.strong_share.proofs.Lists.{put}
-use Rattle.strong_share.proofs.Scenes.{Scene, Goes, Goes.From_input, Goes.From_down, Goes.From_home, Goes.From_up}
-use Rattle.strong_share.proofs.Scenes.{Goes.From_back, Goes.From_out, Goes.From_to, next_scene, message_of, sends_of, node_of}
+use Rattle.strong_share.proofs.Scenes.{Scene, Goes, Goes.From_input, Goes.From_down, Goes.From_home, Goes.From_up, Goes.From_back, Goes.From_out, Goes.From_to}
+use Rattle.strong_share.proofs.Scenes.{next_scene, message_of, sends_of, node_of}
 use Rattle.strong_share.proofs.MemberRows.{raises, processes, plain_leaves}
 use Rattle.strong_share.proofs.ServedPackets.{number, one_if, IsRaised, chunk_after}
 use Rattle.strong_share.proofs.Spreading.{Comes, Comes.Packet_comes, Comes.Record_comes, comes_is}
@@ -35,10 +21,10 @@ use Rattle.strong_share.proofs.QueueRows.{from_is}
 use Rattle.strong_share.proofs.AnswerRows.{told_does, took, answer_of}
 use Rattle.strong_share.proofs.MemberSteps.{matches_is}
 use Rattle.strong_share.proofs.ServedRows.{step_is, sends_is, its, its_record}
-use Rattle.strong_share.proofs.Steps.{OfInput, OfInput.A_packet, OfInput.An_end, OfOut, OfOut.A_plain, OfOut.A_stop, OfBack, OfBack.An_event}
-use Rattle.strong_share.proofs.Steps.{OfBack.A_chunk, OfBack.An_answer, OfBack.A_final, of_input, of_up, of_down, of_out, of_back, of_home}
-use Rattle.strong_share.proofs.Weights.{weight, queue_weight, cell, final_in, cost, none_sent, all_sent, reaches_member, reaches_low, stops_cost}
-use Rattle.strong_share.proofs.Weights.{stops_none, syncs_cost, syncs_none, serve_cost, serve_cells, serve_finals, ended_below, ended_put, ended_few}
+use Rattle.strong_share.proofs.Steps.{OfInput, OfInput.A_packet, OfInput.An_end, OfOut, OfOut.A_plain, OfOut.A_stop, OfBack, OfBack.An_event, OfBack.A_chunk}
+use Rattle.strong_share.proofs.Steps.{OfBack.An_answer, OfBack.A_final, of_input, of_up, of_down, of_out, of_back, of_home}
+use Rattle.strong_share.proofs.Weights.{weight, queue_weight, cell, final_in, cost, none_sent, all_sent, reaches_member, reaches_low, stops_cost, stops_none}
+use Rattle.strong_share.proofs.Weights.{syncs_cost, syncs_none, serve_cost, serve_cells, serve_finals, ended_below, ended_put, ended_few}
 
 module _ {F R : Type 0} (f : Semantics R) (laws : Laws f) (job : StrongJob) (job_is : IsStrongJob f.kind job) (x : Scene F R) (h : Holds f job x) where
   -- so many members beside the first

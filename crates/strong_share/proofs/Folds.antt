@@ -1,18 +1,12 @@
 -- What a strong job gives: each number's packet fits its types, a unit's packets are taken or not as the unit is; and how folds go on with one packet.
-use Rattle.std.proofs.Common.{◌≡◌, ℕ, true, false, Option, Some, None, List, [], ◌∷◌, ◌++◌, refl, sym, ap, ◌∙◌}
-use Rattle.std.specs.Prelude.{if◌then◌else◌, filter}
-use Rattle.std.proofs.lemmas.List.Elements.{filter-append}
-use Rattle.flow_filter.specs.Flow.{flow_of}
+use Rattle.strong_share.proofs.Words.{◌≡◌, ℕ, true, false, Option, Some, None, List, [], ◌∷◌, ◌++◌, refl, sym, ap, ◌∙◌, if◌then◌else◌, filter, filter-append}
+use Rattle.strong_share.proofs.Words.{flow_of, takes, Laws, Semantics, unit_at, kept_after, output_for, same_unit, same_unit-true, same_unit_equiv, StrongJob}
+use Rattle.strong_share.proofs.Words.{IsStrongJob, packet_numbered, is_taken, is_of, fold, outputs}
 use Rattle.nf_function.specs.declared.unit.Unit as units
-use Rattle.nf_function.specs.Units.{takes}
-use Rattle.nf_function.specs.Records.{Fits, Laws}
-use Rattle.nf_function.specs.Semantics.{Semantics, unit_at, kept_after, output_for, is_sound}
-use Rattle.record_table.specs.Table.{same_unit}
-use Rattle.record_table.proofs.UnitOrder.{same_unit-true, same_unit_equiv}
+use Rattle.nf_function.specs.Records.{Fits}
+use Rattle.nf_function.specs.Semantics.{is_sound}
 use Rattle.net_world.proofs.FoundPackets.{found_fits}
 use Rattle.net_world.proofs.WholeFilters.{whole_takes}
-use Rattle.strong_share.specs.Start.{StrongJob, IsStrongJob}
-use Rattle.strong_share.specs.Words.{packet_numbered, is_taken, is_of, fold, outputs}
 
 module _ {R : Type 0} (f : Semantics R) (job : StrongJob) where
   abbrev pub unit : ℕ → units.Unit

@@ -1,20 +1,12 @@
 -- What every scene of a run keeps: labels of messages, the order at members, how packets are served, answers to packets, and where the end is.
-use Rattle.std.proofs.Common.{◌≡◌, ℕ, ◌+◌, ◌<◌, true, None, List, ◌++◌, map, ap, ◌∙◌}
-use Rattle.std.specs.Prelude.{if◌then◌else◌, not, filter, flat_map}
+use Rattle.strong_share.proofs.Words.{◌≡◌, ℕ, ◌+◌, ◌<◌, true, None, List, ◌++◌, map, ap, ◌∙◌, if◌then◌else◌, not, filter, flat_map, Semantics, part, Msg}
+use Rattle.strong_share.proofs.Words.{InPacket, InEnd, End, Finish, Carry, Stop, Event, Shared, Synced, Final, Credit, Each, weigh, SwitchState, is_home}
+use Rattle.strong_share.proofs.Words.{StrongJob, entries, queue_order, events_of, arrivals_in, done_numbers, packet_numbered, is_taken, member_of, is_taken_at}
+use Rattle.strong_share.proofs.Words.{outputs, processed_of, outputs_of}
 use Rattle.std.specs.FinMap as finite
 use Rattle.nf_function.specs.declared.unit.Unit as units
-use Rattle.nf_function.specs.Semantics.{Semantics}
-use Rattle.record_table.specs.Table.{part}
 use Rattle.event_filter.specs.declared.mark.Mark.TheVariants as mark
 use Rattle.packet_window.specs.Window.{IsBalanced}
-use Rattle.nf_msgs.specs.declared.msg.Msg.{Msg}
-use Rattle.nf_msgs.specs.declared.msg.Msg.TheVariants.{InPacket, InEnd, End, Finish, Carry, Stop, Event, Shared, Synced, Final, Credit}
-use Rattle.actor_net.proofs.WeightLaws.{Each, weigh}
-use Rattle.strong_share.specs.Parts.{SwitchState}
-use Rattle.strong_share.specs.Tables.{is_home}
-use Rattle.strong_share.specs.Start.{StrongJob}
-use Rattle.strong_share.specs.Words.{entries, queue_order, events_of, arrivals_in, done_numbers, packet_numbered}
-use Rattle.strong_share.specs.Words.{is_taken, member_of, is_taken_at, outputs, processed_of, outputs_of}
 use Rattle.strong_share.proofs.MemberRows.{IsMember}
 use Rattle.strong_share.proofs.Scenes.{Scene}
 use Rattle.strong_share.proofs.ServedPackets.{number, Sight, IsGenuine, IsRaised, Serves, IsTight}

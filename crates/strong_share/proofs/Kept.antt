@@ -1,37 +1,21 @@
 -- What is promised is read off a scene of a run.
-use Rattle.std.proofs.Common.{◌≡◌, ℕ, suc, ◌+◌, ◌-◌, ◌%◌, ◌<◌, ◌≤◌, Bool, true, false, Option, None, Some, List, []}
-use Rattle.std.proofs.Common.{◌∷◌, ◌++◌, map, length, refl, sym, ap, subst, ◌∙◌, append_assoc, append-nil, arith}
-use Rattle.std.specs.Prelude.{if◌then◌else◌, ◌==◌, ◌&&◌, not, slice_get, filter, flat_map}
+use Rattle.strong_share.proofs.Words.{◌≡◌, ℕ, suc, ◌+◌, ◌-◌, ◌%◌, ◌<◌, ◌≤◌, Bool, true, false, Option, None, Some, List, [], ◌∷◌, ◌++◌, map, length, refl, sym}
+use Rattle.strong_share.proofs.Words.{ap, subst, ◌∙◌, append_assoc, append-nil, arith, if◌then◌else◌, ◌==◌, ◌&&◌, not, slice_get, filter, flat_map, nat_tests}
+use Rattle.strong_share.proofs.Words.{Decides-eqb, slice_get-get_or, filter-append, takes, Laws, Semantics, TableView, part, Msg, Network, is_done, at, Each}
+use Rattle.strong_share.proofs.Words.{StrongNote, Serving, Idle, Out, Syncing, StrongNode, Switch, Controller, Instance, node_ended, is_home, is_idle}
+use Rattle.strong_share.proofs.Words.{StrongJob, IsStrongJob, entries, queue_order, events_of, arrivals_in, done_numbers, is_taken, member_of, is_taken_at}
+use Rattle.strong_share.proofs.Words.{is_of, fold, processed_of, outputs, outputs_of, StrongPromises, StrongCompleted, one_by_one}
 use Rattle.std.specs.FinMap as finite
 use Rattle.std.proofs.Math.Nat.{mod-lt}
-use Rattle.std.proofs.lemmas.Bool.Decides.{nat_tests, Decides-eqb}
 use Rattle.std.proofs.lemmas.Bool.{and_parts}
 use Rattle.std.proofs.lemmas.List.{nil_from_length}
-use Rattle.std.proofs.lemmas.Option.{slice_get-get_or}
-use Rattle.std.proofs.lemmas.List.Elements.{filter-append}
 use Rattle.nf_function.specs.declared.unit.Unit as units
-use Rattle.nf_function.specs.Units.{takes}
-use Rattle.nf_function.specs.Records.{Laws}
-use Rattle.nf_function.specs.Semantics.{Semantics}
-use Rattle.record_table.specs.Table.{TableView, part}
-use Rattle.nf_msgs.specs.declared.msg.Msg.{Msg}
-use Rattle.actor_net.specs.Network.{Network, is_done}
 use Rattle.actor_net.proofs.CompleteWorlds.{done_waiting, done_node}
-use Rattle.actor_net.proofs.EnabledChoices.{at}
-use Rattle.actor_net.proofs.WeightLaws.{Each}
 use Rattle.net_world.specs.Fold.{times, IsFront}
-use Rattle.strong_share.specs.declared.note.StrongNote.{StrongNote}
-use Rattle.strong_share.specs.declared.serving.Serving.{Serving}
-use Rattle.strong_share.specs.declared.serving.Serving.TheVariants.{Idle, Out, Syncing}
-use Rattle.strong_share.specs.declared.node.StrongNode.{StrongNode}
-use Rattle.strong_share.specs.declared.node.StrongNode.TheVariants.{Switch, Ctrl as Controller, Instance}
-use Rattle.strong_share.specs.Tables.{node_ended, has_closed, is_home, is_idle, all_stopped}
-use Rattle.strong_share.specs.Start.{StrongJob, IsStrongJob, numbers_of}
-use Rattle.strong_share.specs.Words.{entries, queue_order, events_of, arrivals_in, done_numbers, is_taken, member_of, is_taken_at, is_of, fold, numbers_in}
-use Rattle.strong_share.specs.Words.{processed_of, queue_of, live_at, standby_at, live_in, standby_in, home_in, cells_at_home, outputs, outputs_of}
-use Rattle.strong_share.specs.Promises.{StrongPromises, StrongCompleted}
+use Rattle.strong_share.specs.Tables.{has_closed, all_stopped}
+use Rattle.strong_share.specs.Start.{numbers_of}
+use Rattle.strong_share.specs.Words.{numbers_in, queue_of, live_at, standby_at, live_in, standby_in, home_in, cells_at_home}
 use Rattle.net_world.specs.Input.{IsRising}
-use Rattle.net_world.proofs.FoundPackets.{one_by_one}
 use Rattle.net_world.proofs.NumberCounts.{times-append, times_filter}
 use Rattle.strong_share.proofs.Lists.{filter_among, filter_few}
 use Rattle.strong_share.proofs.Folds.{seen, unit_taken}

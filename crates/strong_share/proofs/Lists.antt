@@ -1,8 +1,6 @@
 -- Functions that are changed at one place, some packets among others, and tests of the numbers of nodes.
-use Rattle.std.proofs.Common.{◌≡◌, ℕ, ◌+◌, Bool, true, false, List, [], ◌∷◌, ◌++◌, refl, sym, ap, ◌∙◌, append-nil, arith}
-use Rattle.std.specs.Prelude.{if◌then◌else◌, ◌==◌, filter}
-use Rattle.std.proofs.lemmas.List.Elements.{filter-append}
-use Rattle.std.proofs.lemmas.Bool.Decides.{nat_tests, Decides-eqb}
+use Rattle.strong_share.proofs.Words.{◌≡◌, ℕ, ◌+◌, Bool, true, false, List, [], ◌∷◌, ◌++◌, refl, sym, ap, ◌∙◌, append-nil, arith, if◌then◌else◌, ◌==◌, filter}
+use Rattle.strong_share.proofs.Words.{filter-append, nat_tests, Decides-eqb}
 pub use Rattle.actor_net.proofs.NumberCounts.{times_filter, filter_few}
 
 -- changed at one place

@@ -1,17 +1,12 @@
 -- What is read off a log that goes on.
-use Rattle.std.proofs.Common.{◌≡◌, ℕ, None, Bool, true, false, List, [], ◌∷◌, ◌++◌, map, refl, sym, ap, ◌∙◌, append-nil}
-use Rattle.std.specs.Prelude.{if◌then◌else◌, ◌==◌, filter}
-use Rattle.std.proofs.lemmas.List.{map-append}
-use Rattle.std.proofs.lemmas.List.Elements.{filter-append, filter_map-append}
+use Rattle.strong_share.proofs.Words.{◌≡◌, ℕ, None, Bool, true, false, List, [], ◌∷◌, ◌++◌, map, refl, sym, ap, ◌∙◌, append-nil, if◌then◌else◌, ◌==◌, filter}
+use Rattle.strong_share.proofs.Words.{map-append, filter-append, Semantics, StrongNote, Queued, StrongJob, inner_notes, entries, queue_order, events_of}
+use Rattle.strong_share.proofs.Words.{arrivals_in, dones_in, done_numbers, is_of, outputs_of, processed_of, outputs}
+use Rattle.std.proofs.lemmas.List.Elements.{filter_map-append}
 use Rattle.nf_function.specs.declared.unit.Unit as units
-use Rattle.nf_function.specs.Semantics.{Semantics}
 use Rattle.net_world.specs.Log as log
 use Rattle.net_world.proofs.LogLemmas as log_lemmas
-use Rattle.strong_share.specs.declared.note.StrongNote.{StrongNote}
-use Rattle.strong_share.specs.declared.note.StrongNote.TheVariants.{Queued}
-use Rattle.strong_share.specs.Start.{StrongJob}
-use Rattle.strong_share.specs.Words.{inner_note, inner_notes, entry_in, entries, queue_order, events_of}
-use Rattle.strong_share.specs.Words.{arrivals_in, dones_in, done_numbers, is_of, outputs_of, processed_of, outputs}
+use Rattle.strong_share.specs.Words.{inner_note, entry_in}
 
 -- the packets in entries, and those that a member raised
 abbrev pub entry_numbers : List (ℕ × ℕ) → List ℕ

@@ -1,13 +1,9 @@
 -- Lists over the first members: how they grow with one member more.
-use Rattle.std.proofs.Common.{◌≡◌, ℕ, suc, ◌+◌, Bool, true, false, List, [], ◌∷◌, ◌++◌, map, refl, sym, ap, ◌∙◌, append_assoc, append-nil, arith, map-id}
-use Rattle.std.specs.Prelude.{if◌then◌else◌, ◌==◌, not, filter}
+use Rattle.strong_share.proofs.Words.{◌≡◌, ℕ, suc, ◌+◌, Bool, true, false, List, [], ◌∷◌, ◌++◌, map, refl, sym, ap, ◌∙◌, append_assoc, append-nil, arith}
+use Rattle.strong_share.proofs.Words.{if◌then◌else◌, ◌==◌, not, filter, map-append, filter-append, map-range_with_len_more, Chunk, Msg, sync_to, syncs}
+use Rattle.std.proofs.Common.{map-id}
 use Rattle.std.specs.List.{range_with_len}
-use Rattle.std.proofs.lemmas.List.{map-append}
-use Rattle.std.proofs.lemmas.List.Elements.{filter-append}
-use Rattle.std.proofs.lemmas.List.FromFn.{map-range_with_len_more}
-use Rattle.nf_function.specs.declared.chunk.Chunk.{Chunk}
-use Rattle.nf_msgs.specs.declared.msg.Msg.{Msg}
-use Rattle.strong_share.specs.Tables.{others, sync_to, syncs}
+use Rattle.strong_share.specs.Tables.{others}
 
 members_more : (n : ℕ) → range_with_len 0 (suc n) ≡ range_with_len 0 n ++ n ∷ []
 members_more n =

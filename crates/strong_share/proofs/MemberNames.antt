@@ -1,9 +1,7 @@
 -- What the loop over the nodes leaves at its end: no node is left, or no name is.
-use Rattle.std.proofs.Common.{◌≡◌, ℕ, ◌<◌, ◌≤◌, List, [], ◌∷◌, ◌++◌, drop, length, arith, refl, sym, ap, ◌∙◌}
+use Rattle.strong_share.proofs.Words.{◌≡◌, ℕ, ◌<◌, ◌≤◌, List, [], ◌∷◌, ◌++◌, drop, length, arith, refl, sym, ap, ◌∙◌, StrongNode, named_members}
 use Rattle.std.proofs.lemmas.List.{append-nil, drop_all}
 use Rattle.report_lines.specs.Lines.{NamedInstance}
-use Rattle.strong_share.specs.declared.node.StrongNode.{StrongNode}
-use Rattle.strong_share.specs.Report.{named_members}
 
 -- without nodes there are no members
 no_nodes : (F R : Type 0) (names : List (List ℕ)) → named_members {F = F} {R = R} names [] ≡ []

@@ -1,35 +1,22 @@
 -- The rows of a member: what an instance with the share's rule alone does with each message of strong sharing.
-use Rattle.std.proofs.Common.{◌≡◌, ℕ, Bool, true, false, Option, Some, None, List, [], ◌∷◌, ◌++◌, refl, sym, ap, subst, ◌∙◌}
-use Rattle.std.specs.Prelude.{if◌then◌else◌, not, option_map}
+use Rattle.strong_share.proofs.Words.{◌≡◌, ℕ, Bool, true, false, Option, Some, None, List, [], ◌∷◌, ◌++◌, refl, sym, ap, subst, ◌∙◌, if◌then◌else◌, not}
+use Rattle.strong_share.proofs.Words.{matches, flow_of, Chunk, Laws, Semantics, unit_at, kept_after, output_for, record_chunk, TableView, same_unit, part}
+use Rattle.strong_share.proofs.Words.{same_unit_equiv, FullCell, Msg, Carry, Event, Shared, Sync, Synced, Credit, Note, Processed, InstanceState, Step}
+use Rattle.strong_share.proofs.Words.{tell_step, instance_step, keep_note, the_share, StrongJob}
+use Rattle.std.specs.Prelude.{option_map}
 use Rattle.std.specs.List.{IsDistinct}
 use Rattle.std.proofs.lemmas.List.Elements.{All-from_recursion}
 use Rattle.std.specs.FinMap as finite
-use Rattle.flow_filter.specs.Filter.{matches}
-use Rattle.flow_filter.specs.Flow.{flow_of}
-use Rattle.nf_function.specs.declared.chunk.Chunk.{Chunk}
 use Rattle.nf_function.specs.declared.unit.Unit as units
 use Rattle.nf_function.specs.UnitOrder.{units_total}
-use Rattle.nf_function.specs.Records.{Laws}
-use Rattle.nf_function.specs.Semantics.{Semantics, unit_at, kept_after, output_for}
-use Rattle.state_chunk.specs.Format.{record_chunk}
-use Rattle.record_table.specs.Table.{Records, TableView, same_unit, part, with_part, after_packet, either, replaced_by}
+use Rattle.record_table.specs.Table.{Records, with_part, after_packet, either, replaced_by}
 use Rattle.record_table.specs.Chunks.{records_of, AreMadeOf}
-use Rattle.record_table.proofs.UnitOrder.{same_unit_equiv}
 use Rattle.record_table.proofs.RecordLookUps.{get-joined, get-after_packet}
 use Rattle.record_table.proofs.MadeChunks.{made_read}
 use Rattle.event_filter.specs.declared.action.Action.TheVariants.{Drop}
 use Rattle.event_filter.specs.declared.mark.Mark.TheVariants as mark
-use Rattle.packet_pool.specs.Pool.{FullCell}
-use Rattle.nf_msgs.specs.declared.msg.Msg.{Msg}
-use Rattle.nf_msgs.specs.declared.msg.Msg.TheVariants.{Carry, Event, Shared, Sync, Synced, Credit}
-use Rattle.nf_msgs.specs.declared.note.Note.{Note}
-use Rattle.nf_msgs.specs.declared.note.Note.TheVariants.{Processed}
 use Rattle.nf_msgs.specs.Nodes.{switch_node, controller_node}
-use Rattle.instance_worker.specs.declared.instance.Instance.{Instance as InstanceState}
-use Rattle.instance_worker.specs.Instance.{Step, still, tell_step, tells_and_notes, to_controller, chunk_told}
-use Rattle.instance_worker.specs.Instance.{process_step, on_carry, on_sync, instance_step, with_records, keep_note}
-use Rattle.strong_share.specs.Tables.{the_share}
-use Rattle.strong_share.specs.Start.{StrongJob}
+use Rattle.instance_worker.specs.Instance.{still, tells_and_notes, to_controller, chunk_told, process_step, on_carry, on_sync, with_records}
 
 part_put : {R : Type 0} (t : TableView R) (b : Bool) (records : Records R) → part (with_part t b records) b ≡ records
 part_put t true records = refl
@@ -41,8 +28,8 @@ part_left t false records = refl
 
 coming : {R : Type 0} (held : Option R) (b : Bool) (r : R) → either (λ h c. c) held (if b then Some r else None) ≡ (if b then Some r else held)
 coming None true r = refl
-coming (Some h) true r = refl
 coming None false r = refl
+coming (Some h) true r = refl
 coming (Some h) false r = refl
 
 -- a member: it has the share's rule alone

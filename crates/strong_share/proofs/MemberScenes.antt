@@ -1,21 +1,9 @@
 -- What a member's step leaves of a scene, and which of its facts stay.
-use Rattle.std.proofs.Common.{◌≡◌, ℕ, ◌+◌, ◌<◌, Bool, true, false, List, [], ◌++◌, map, refl, sym, ap, subst, ◌∙◌}
-use Rattle.std.specs.Prelude.{if◌then◌else◌, ◌==◌, not, filter, flat_map}
-use Rattle.std.proofs.lemmas.Bool.Decides.{Decides-eqb}
+use Rattle.strong_share.proofs.Words.{◌≡◌, ℕ, ◌+◌, ◌<◌, Bool, true, false, List, [], ◌++◌, map, refl, sym, ap, subst, ◌∙◌, if◌then◌else◌, ◌==◌, not, filter}
+use Rattle.strong_share.proofs.Words.{flat_map, Decides-eqb, Semantics, part, TableView, Msg, InstanceState, Step, sent_for, Each, weigh, StrongNote, Inner}
+use Rattle.strong_share.proofs.Words.{is_home, StrongJob, events_of, arrivals_in, done_numbers, is_taken, is_taken_at}
 use Rattle.std.specs.FinMap as finite
 use Rattle.nf_function.specs.declared.unit.Unit as units
-use Rattle.nf_function.specs.Semantics.{Semantics}
-use Rattle.record_table.specs.Table.{part, TableView}
-use Rattle.nf_msgs.specs.declared.msg.Msg.{Msg}
-use Rattle.instance_worker.specs.declared.instance.Instance.{Instance as InstanceState}
-use Rattle.instance_worker.specs.Instance.{Step}
-use Rattle.actor_net.specs.Histories.{sent_for}
-use Rattle.actor_net.proofs.WeightLaws.{Each, weigh}
-use Rattle.strong_share.specs.declared.note.StrongNote.{StrongNote}
-use Rattle.strong_share.specs.declared.note.StrongNote.TheVariants.{Inner}
-use Rattle.strong_share.specs.Tables.{is_home}
-use Rattle.strong_share.specs.Start.{StrongJob}
-use Rattle.strong_share.specs.Words.{events_of, arrivals_in, done_numbers, is_taken, is_taken_at}
 use Rattle.strong_share.proofs.Lists.{put}
 use Rattle.strong_share.proofs.MemberRows.{IsMember}
 use Rattle.strong_share.proofs.Scenes.{Scene, member_did}

@@ -1,27 +1,14 @@
 -- The rows of a member for a packet that it raises and for its stop keep what every scene of a run keeps.
-use Rattle.std.proofs.Common.{◌≡◌, ℕ, ◌+◌, ◌<◌, ◌≤◌, Bool, true, false, List, [], ◌∷◌, ◌++◌, refl, sym, ap, ◌∙◌, append_assoc, append-nil, arith}
-use Rattle.std.specs.Prelude.{if◌then◌else◌, ◌==◌, ◌&&◌, not, filter, flat_map}
-use Rattle.std.proofs.lemmas.Bool.Decides.{Decides-eqb}
-use Rattle.flow_filter.specs.Filter.{matches}
-use Rattle.flow_filter.specs.Flow.{flow_of}
-use Rattle.nf_function.specs.Semantics.{Semantics}
+use Rattle.strong_share.proofs.Words.{◌≡◌, ℕ, ◌+◌, ◌<◌, ◌≤◌, Bool, true, false, List, [], ◌∷◌, ◌++◌, refl, sym, ap, ◌∙◌, append_assoc, append-nil, arith}
+use Rattle.strong_share.proofs.Words.{if◌then◌else◌, ◌==◌, ◌&&◌, not, filter, flat_map, Decides-eqb, matches, flow_of, Semantics, FullCell, Msg, Carry, Stop}
+use Rattle.strong_share.proofs.Words.{Event, Final, InstanceState, instance_step, sent_for, weigh, the_share, StrongJob, arrivals_in, is_taken, member_of}
+use Rattle.strong_share.proofs.Words.{is_taken_at}
 use Rattle.event_filter.specs.declared.mark.Mark.TheVariants as mark
-use Rattle.packet_pool.specs.Pool.{FullCell}
-use Rattle.nf_msgs.specs.declared.msg.Msg.{Msg}
-use Rattle.nf_msgs.specs.declared.msg.Msg.TheVariants.{Carry, Stop, Event, Final}
-use Rattle.instance_worker.specs.declared.instance.Instance.{Instance as InstanceState}
-use Rattle.instance_worker.specs.Instance.{instance_step}
-use Rattle.actor_net.specs.Histories.{sent_for}
-use Rattle.actor_net.proofs.WeightLaws.{weigh}
-use Rattle.strong_share.specs.Tables.{the_share}
-use Rattle.strong_share.specs.Start.{StrongJob}
-use Rattle.strong_share.specs.Words.{arrivals_in, is_taken, member_of, is_taken_at}
 use Rattle.strong_share.proofs.Lists.{put, one_two}
 use Rattle.strong_share.proofs.MemberRows.{raises}
 use Rattle.strong_share.proofs.Scenes.{Scene, member_did}
 use Rattle.strong_share.proofs.ServedPackets.{number, one_if, IsGenuine, Agrees, serves_alike, tight_alike}
-use Rattle.strong_share.proofs.Reading.{plain_in, event_in, stop_in, taken_has}
-use Rattle.strong_share.proofs.Reading.{taken_first, more_at, none_at, each_taken, head_of, taken_weighs}
+use Rattle.strong_share.proofs.Reading.{plain_in, event_in, stop_in, taken_has, taken_first, more_at, none_at, each_taken, head_of, taken_weighs}
 use Rattle.strong_share.proofs.Holding.{out_label, ends_left, sight, Holds}
 use Rattle.strong_share.proofs.LogLemmas.{IsQuiet, answered_same, quiet_log}
 use Rattle.strong_share.proofs.MemberScenes.{put_own, left_by, agrees_left, labelled_left, ends_left_by, ordered_quiet}

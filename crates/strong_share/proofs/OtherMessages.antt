@@ -1,12 +1,8 @@
 -- A message that the tables don't name leaves the switch or the controller as it is.
-use Rattle.std.proofs.Common.{◌≡◌, ℕ, refl}
-use Rattle.flow_filter.specs.declared.packet.Packet.{Packet}
-use Rattle.nf_function.specs.declared.chunk.Chunk.{Chunk}
-use Rattle.packet_pool.specs.Pool.{FullCell}
-use Rattle.nf_msgs.specs.declared.msg.Msg.{Msg}
+use Rattle.strong_share.proofs.Words.{◌≡◌, ℕ, refl, Packet, Chunk, FullCell, Msg, SwitchState, ControllerState, switch_step, switch_still, row_of_member}
+use Rattle.strong_share.proofs.Words.{controller_still}
 use Rattle.nf_msgs.specs.declared.msg.Msg.TheVariants as msg
-use Rattle.strong_share.specs.Parts.{SwitchState, ControllerState}
-use Rattle.strong_share.specs.Tables.{switch_step, switch_still, row_of_member, row_of_switch, controller_still}
+use Rattle.strong_share.specs.Tables.{row_of_switch}
 
 pub other_of_member : (c : ControllerState) (i : ℕ) (message : Msg)
     → ((op : ℕ) (cell : FullCell) → message ≡ msg.Event op cell → ⊥) → ((op : ℕ) (chunk : Chunk) → message ≡ msg.Shared op chunk → ⊥)

@@ -1,33 +1,14 @@
 -- The first member's row for a packet that the filter doesn't match keeps what every scene of a run keeps.
-use Rattle.std.proofs.Common.{◌≡◌, ℕ, ◌+◌, ◌<◌, Bool, true, false, Option, None, Some, List, []}
-use Rattle.std.proofs.Common.{◌∷◌, ◌++◌, map, refl, sym, ap, subst, ◌∙◌, append_assoc, append-nil}
-use Rattle.std.specs.Prelude.{if◌then◌else◌, ◌==◌, ◌&&◌, not, filter, flat_map}
-use Rattle.std.proofs.lemmas.List.{map-append}
-use Rattle.std.proofs.lemmas.Bool.Decides.{Decides-eqb}
+use Rattle.strong_share.proofs.Words.{◌≡◌, ℕ, ◌+◌, ◌<◌, Bool, true, false, Option, None, Some, List, [], ◌∷◌, ◌++◌, map, refl, sym, ap, subst, ◌∙◌}
+use Rattle.strong_share.proofs.Words.{append_assoc, append-nil, if◌then◌else◌, ◌==◌, ◌&&◌, not, filter, flat_map, map-append, Decides-eqb, filter-append}
+use Rattle.strong_share.proofs.Words.{Output, takes, Laws, Semantics, unit_at, kept_after, output_for, same_unit, part, same_unit-true, FullCell, Msg, Carry}
+use Rattle.strong_share.proofs.Words.{Credit, Processed, Step, instance_processed, instance_step, keep_note, sent_for, Each, StrongNote, Inner, is_home}
+use Rattle.strong_share.proofs.Words.{StrongJob, IsStrongJob, entries, events_of, arrivals_in, dones_in, done_numbers, packet_numbered, is_taken, member_of}
+use Rattle.strong_share.proofs.Words.{is_taken_at, is_of, fold, outputs, processed_of, outputs_of}
 use Rattle.std.specs.FinMap as finite
-use Rattle.std.proofs.lemmas.List.Elements.{filter-append}
-use Rattle.nf_function.specs.declared.output.Output.{Output}
 use Rattle.nf_function.specs.declared.unit.Unit as units
-use Rattle.nf_function.specs.Units.{takes}
-use Rattle.nf_function.specs.Records.{Laws}
-use Rattle.nf_function.specs.Semantics.{Semantics, unit_at, kept_after, output_for}
-use Rattle.record_table.specs.Table.{same_unit, part}
-use Rattle.record_table.proofs.UnitOrder.{same_unit-true}
 use Rattle.event_filter.specs.declared.mark.Mark.TheVariants as mark
-use Rattle.packet_pool.specs.Pool.{FullCell}
-use Rattle.nf_msgs.specs.declared.msg.Msg.{Msg}
-use Rattle.nf_msgs.specs.declared.msg.Msg.TheVariants.{Carry, Credit}
-use Rattle.nf_msgs.specs.declared.note.Note.TheVariants.{Processed}
-use Rattle.instance_worker.specs.Instance.{Step, process_step as instance_processed, instance_step, keep_note}
-use Rattle.actor_net.specs.Histories.{sent_for}
-use Rattle.actor_net.proofs.WeightLaws.{Each}
 use Rattle.net_world.specs.Log as log
-use Rattle.strong_share.specs.declared.note.StrongNote.{StrongNote}
-use Rattle.strong_share.specs.declared.note.StrongNote.TheVariants.{Inner}
-use Rattle.strong_share.specs.Tables.{is_home}
-use Rattle.strong_share.specs.Start.{StrongJob, IsStrongJob}
-use Rattle.strong_share.specs.Words.{entries, events_of, arrivals_in, dones_in, done_numbers, packet_numbered}
-use Rattle.strong_share.specs.Words.{is_taken, member_of, is_taken_at, is_of, fold, outputs, processed_of, outputs_of}
 use Rattle.strong_share.proofs.Lists.{put, filter_one_more, zero_two}
 use Rattle.strong_share.proofs.Folds.{unit, after, seen, unit_taken, kept_is, outputs-append, unit_own, unit_swapped}
 use Rattle.strong_share.proofs.MemberRows.{Leaves, processes, plain_leaves}

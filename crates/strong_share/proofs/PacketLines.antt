@@ -1,9 +1,6 @@
 -- The lines of packets are read off the notes that packets were processed: the other notes have none.
-use Rattle.std.proofs.Common.{◌≡◌, ℕ, List, ◌++◌, ap, ◌∙◌, filter_map}
-use Rattle.nf_function.specs.Semantics.{Semantics}
-use Rattle.nf_msgs.specs.declared.note.Note.{Note}
+use Rattle.strong_share.proofs.Words.{◌≡◌, ℕ, List, ◌++◌, ap, ◌∙◌, filter_map, Semantics, Note, processed_in}
 use Rattle.report_lines.specs.Lines.{done_lines, out_lines}
-use Rattle.report_lines.specs.Seen.{processed_in}
 use Rattle.report_lines.proofs.ProcessedNotes.{same_dones, same_outs}
 use Rattle.strong_share.specs.Report.{event_lines, packet_lines}
 

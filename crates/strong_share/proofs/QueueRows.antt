@@ -1,28 +1,16 @@
 -- The controller's rows for the end of the input and for a packet that a member raises keep what every scene of a run keeps.
-use Rattle.std.proofs.Common.{◌≡◌, ℕ, suc, ◌+◌, ◌<◌, true, false, None, List, [], ◌∷◌, ◌++◌, map}
-use Rattle.std.proofs.Common.{refl, sym, ap, subst, ◌∙◌, append_assoc, append-nil, arith, Some}
-use Rattle.std.specs.Prelude.{if◌then◌else◌, ◌==◌, not, filter, flat_map}
-use Rattle.std.proofs.lemmas.Bool.Decides.{Decides-eqb, Decides-ltb}
+use Rattle.strong_share.proofs.Words.{◌≡◌, ℕ, suc, ◌+◌, ◌<◌, true, false, None, List, [], ◌∷◌, ◌++◌, map, refl, sym, ap, subst, ◌∙◌, append_assoc, append-nil}
+use Rattle.strong_share.proofs.Words.{arith, Some, if◌then◌else◌, ◌==◌, not, filter, flat_map, Decides-eqb, Decides-ltb, Semantics, FullCell, Msg, End, Finish}
+use Rattle.strong_share.proofs.Words.{Carry, Event, sent_for, Each, each-append, weigh, weigh-append, Queued, Serving, Idle, QueuedPacket, ControllerState}
+use Rattle.strong_share.proofs.Words.{serve_row, serve_step, with_event, controller_step, is_home, the_share, row_of_member, StrongJob, entries, events_of}
+use Rattle.strong_share.proofs.Words.{queue_order, arrivals_in, dones_in, is_taken, is_taken_at, is_of, outputs, outputs_of, processed_of}
 use Rattle.nf_function.specs.declared.unit.Unit as units
-use Rattle.nf_function.specs.Semantics.{Semantics}
 use Rattle.event_filter.specs.declared.mark.Mark.TheVariants as mark
-use Rattle.packet_pool.specs.Pool.{FullCell}
-use Rattle.nf_msgs.specs.declared.msg.Msg.{Msg}
-use Rattle.nf_msgs.specs.declared.msg.Msg.TheVariants.{End, Finish, Carry, Event}
-use Rattle.actor_net.specs.Histories.{sent_for}
-use Rattle.actor_net.proofs.WeightLaws.{Each, each-append, weigh, weigh-append}
-use Rattle.strong_share.specs.declared.note.StrongNote.TheVariants.{Queued}
-use Rattle.strong_share.specs.declared.serving.Serving.{Serving}
-use Rattle.strong_share.specs.declared.serving.Serving.TheVariants.{Idle}
-use Rattle.strong_share.specs.declared.queued_packet.QueuedPacket.{QueuedPacket}
-use Rattle.strong_share.specs.Parts.{ControllerState}
-use Rattle.strong_share.specs.Tables.{serve_row, serve_step, with_event, controller_step, is_home, the_share, member_at, row_of_port, row_of_member}
-use Rattle.strong_share.specs.Start.{StrongJob}
-use Rattle.strong_share.specs.Words.{entries, events_of, queue_order, arrivals_in, dones_in, is_taken, is_taken_at, is_of, outputs, outputs_of, processed_of}
+use Rattle.strong_share.specs.Tables.{member_at, row_of_port}
 use Rattle.strong_share.proofs.Lists.{put, two_zero, swapped, zero_two}
 use Rattle.strong_share.proofs.Scenes.{Scene, controller_did}
-use Rattle.strong_share.proofs.ServedPackets.{number, Sight, served, served_from, IsRaised, Serves, Agrees}
-use Rattle.strong_share.proofs.ServedPackets.{serves_alike, tight_alike, serves_queued, serves_front}
+use Rattle.strong_share.proofs.ServedPackets.{number, Sight, served, served_from, IsRaised, Serves, Agrees, serves_alike, tight_alike, serves_queued}
+use Rattle.strong_share.proofs.ServedPackets.{serves_front}
 use Rattle.strong_share.proofs.Reading.{packet_in, plain_in, event_in, answer_in, end_in, stop_in, taken_has, taken_first, each_taken, head_of, sent_one}
 use Rattle.strong_share.proofs.Holding.{up_label, down_label, back_label, Labelled, IsRight, Ordered, Ends, ends_left, sight, Holds, end_moves}
 use Rattle.strong_share.proofs.LogLemmas.{arrived-append, entries-append, queue_order-append, events_of-queued, done-append}

@@ -1,18 +1,10 @@
 -- What is read off the messages of a scene, and how it changes where one is taken and others are sent.
-use Rattle.std.proofs.Common.{◌≡◌, ℕ, zero, suc, ◌+◌, ◌<◌, ◌≤◌, Bool, true, false, List, [], ◌∷◌}
-use Rattle.std.proofs.Common.{◌++◌, refl, sym, ap, subst, ◌∙◌, append_assoc, append-nil, arith}
-use Rattle.std.specs.Prelude.{if◌then◌else◌, ◌==◌, flat_map}
-use Rattle.std.proofs.lemmas.Bool.Decides.{nat_tests, Decides-eqb}
-use Rattle.std.proofs.lemmas.List.Concat.{flat_map-append}
+use Rattle.strong_share.proofs.Words.{◌≡◌, ℕ, zero, suc, ◌+◌, ◌<◌, ◌≤◌, Bool, true, false, List, [], ◌∷◌, ◌++◌, refl, sym, ap, subst, ◌∙◌, append_assoc}
+use Rattle.strong_share.proofs.Words.{append-nil, arith, if◌then◌else◌, ◌==◌, flat_map, nat_tests, Decides-eqb, flat_map-append, Msg, InPacket, InEnd, End}
+use Rattle.strong_share.proofs.Words.{Finish, Carry, Stop, Event, Shared, Synced, instance_node, sent_for, Each, each-append, weigh, stop_messages}
 use Rattle.event_filter.specs.declared.mark.Mark.TheVariants as mark
-use Rattle.nf_msgs.specs.declared.msg.Msg.{Msg}
-use Rattle.nf_msgs.specs.declared.msg.Msg.TheVariants.{InPacket, InEnd, End, Finish, Carry, Stop, Event, Shared, Synced}
-use Rattle.nf_msgs.specs.Nodes.{instance_node}
-use Rattle.actor_net.specs.Histories.{sent_for}
-use Rattle.actor_net.proofs.WeightLaws.{Each, each-append, weigh}
 use Rattle.strong_share.proofs.Lists.{put, two_two, swapped}
 use Rattle.strong_share.proofs.ServedPackets.{number, Answer, Answer.Told, Answer.Took}
-use Rattle.switch_node.specs.Switch.{stop_messages}
 
 -- the packet of an item of the input, of a plain message and of an event
 abbrev pub packet_in : Msg → List ℕ

@@ -1,19 +1,9 @@
 -- What is served goes on where a member processes the packet that is out, takes its record, or processes a packet that the filter doesn't match.
-use Rattle.std.proofs.Common.{◌≡◌, ℕ, ◌<◌, Bool, true, false, Option, Some, None, List, [], ◌∷◌, ◌++◌, map, refl, sym, ap, subst, ◌∙◌, append-nil, arith}
-use Rattle.std.specs.Prelude.{if◌then◌else◌, ◌==◌, not}
-use Rattle.std.proofs.lemmas.Bool.Decides.{Decides-eqb}
+use Rattle.strong_share.proofs.Words.{◌≡◌, ℕ, ◌<◌, Bool, true, false, Option, Some, None, List, [], ◌∷◌, ◌++◌, map, refl, sym, ap, subst, ◌∙◌, append-nil}
+use Rattle.strong_share.proofs.Words.{arith, if◌then◌else◌, ◌==◌, not, Decides-eqb, takes, Laws, Semantics, same_unit-true, Msg, Carry, QueuedPacket}
+use Rattle.strong_share.proofs.Words.{the_share, is_home, StrongJob, IsStrongJob, is_taken, is_of}
 use Rattle.nf_function.specs.declared.unit.Unit as units
-use Rattle.nf_function.specs.Units.{takes}
-use Rattle.nf_function.specs.Records.{Laws}
-use Rattle.nf_function.specs.Semantics.{Semantics}
-use Rattle.record_table.proofs.UnitOrder.{same_unit-true}
 use Rattle.event_filter.specs.declared.mark.Mark.TheVariants as mark
-use Rattle.nf_msgs.specs.declared.msg.Msg.{Msg}
-use Rattle.nf_msgs.specs.declared.msg.Msg.TheVariants.{Carry}
-use Rattle.strong_share.specs.declared.queued_packet.QueuedPacket.{QueuedPacket}
-use Rattle.strong_share.specs.Tables.{the_share, is_home}
-use Rattle.strong_share.specs.Start.{StrongJob, IsStrongJob}
-use Rattle.strong_share.specs.Words.{is_taken, is_of}
 use Rattle.strong_share.proofs.Lists.{put, filter_one_more, filter_no_more}
 use Rattle.strong_share.proofs.Folds.{unit, after, seen, unit_taken, seen_more, seen_same}
 use Rattle.strong_share.proofs.ServedPackets.{raised_number, Answer.Told, Answer.Took, Turn, Turn.Going, Turn.Coming, is_going, is_pending, one_if}

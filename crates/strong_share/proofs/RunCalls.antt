@@ -1,25 +1,14 @@
 -- What the calls that run strong sharing promise of the world that they hand back: they go from its start, by a schedule or by choices that are replayed.
-use Rattle.std.proofs.Common.{◌≡◌, ◌≢◌, Result, Ok, Err, ℕ, List, length, sym, ap, ◌∙◌, subst, true}
+use Rattle.strong_share.proofs.Words.{◌≡◌, ◌≢◌, ℕ, List, length, sym, ap, ◌∙◌, subst, true, Global, most_packets, Laws, Semantics, Msg, Choice, Schedule}
+use Rattle.strong_share.proofs.Words.{Network, IsRun, is_done, run, StopsShort, StrongNote, StrongNode, node_ready, node_step, node_ended, StrongJob}
+use Rattle.strong_share.proofs.Words.{IsStrongJob, strong_start, choices_of, StrongPromises, StrongCompleted, StrongEnds}
+use Rattle.std.proofs.Common.{Result, Ok, Err}
 use Rattle.std.specs.Prelude.{◌<◌, IfOk}
-use Rattle.std.specs.declared.alloc.Global.{Global}
-use Rattle.flow_filter.specs.Limits.{most_packets}
-use Rattle.nf_function.specs.Records.{Laws}
-use Rattle.nf_function.specs.Semantics.{Semantics}
-use Rattle.nf_msgs.specs.declared.msg.Msg.{Msg}
-use Rattle.actor_net.specs.declared.choice.Choice.{Choice}
-use Rattle.actor_net.specs.declared.schedule.Schedule.{Schedule}
 use Rattle.actor_net.specs.declared.replays.ReplayFault.{ReplayFault}
 use Rattle.actor_net.specs.declared.replays.ReplayFault.TheVariants.{NoMemory}
-use Rattle.actor_net.specs.Network.{Network, IsRun, is_done, run}
 use Rattle.actor_net.specs.Replays.{replay_of}
-use Rattle.actor_net.specs.Schedules.{StopsShort}
 use Rattle.actor_net.proofs.ReplayLaws.{replayed_ok}
-use Rattle.strong_share.specs.declared.note.StrongNote.{StrongNote}
-use Rattle.strong_share.specs.declared.node.StrongNode.{StrongNode}
-use Rattle.strong_share.specs.Tables.{node_ready, node_step, node_ended}
-use Rattle.strong_share.specs.Start.{StrongJob, IsStrongJob, strong_start}
-use Rattle.strong_share.specs.Runs.{LeadsTo, choices_of}
-use Rattle.strong_share.specs.Promises.{StrongPromises, StrongCompleted, StrongEnds}
+use Rattle.strong_share.specs.Runs.{LeadsTo}
 use Rattle.strong_share.proofs.Runs.{run_promises, run_completed, run_end, too_many}
 
 module _ (F : Type 0) {R : Type 0} (f : Semantics R) (laws : Laws f) (alloc : Global) (job : StrongJob) (is : IsStrongJob f.kind job) where

@@ -1,25 +1,11 @@
 -- What every run of strong sharing keeps, put together; and that a schedule that stops short had too many packets.
-use Rattle.std.proofs.Common.{◌≡◌, inl, inr, ℕ, ◌+◌, ◌*◌, ◌<◌, ◌≤◌, Bool, true, false, List, length, refl, sym, ◌∙◌, arith}
-use Rattle.std.specs.Prelude.{nat_lt}
-use Rattle.std.specs.declared.alloc.Global.{Global}
+use Rattle.strong_share.proofs.Words.{◌≡◌, inl, inr, ℕ, ◌+◌, ◌*◌, ◌<◌, ◌≤◌, Bool, true, false, List, length, refl, sym, ◌∙◌, arith, nat_lt, Global, nat_tests}
+use Rattle.strong_share.proofs.Words.{Decides-ltb, most_packets, Laws, Semantics, Msg, Choice, Schedule, Network, IsRun, is_done, run, StopsShort, StrongNote}
+use Rattle.strong_share.proofs.Words.{StrongNode, node_ready, node_step, node_ended, StrongJob, IsStrongJob, strong_start, choices_of, StrongPromises}
+use Rattle.strong_share.proofs.Words.{StrongCompleted, StrongEnds}
 use Rattle.std.proofs.Math.Nat.{mul-le-mul}
-use Rattle.std.proofs.lemmas.Bool.Decides.{nat_tests, Decides-ltb}
-use Rattle.flow_filter.specs.Limits.{most_packets}
-use Rattle.nf_function.specs.Records.{Laws}
-use Rattle.nf_function.specs.Semantics.{Semantics}
-use Rattle.nf_msgs.specs.declared.msg.Msg.{Msg}
-use Rattle.actor_net.specs.declared.choice.Choice.{Choice}
-use Rattle.actor_net.specs.declared.schedule.Schedule.{Schedule}
 use Rattle.actor_net.specs.declared.schedule.TheConstants.{MOST_CHOICES}
-use Rattle.actor_net.specs.Network.{Network, IsRun, is_done, run}
-use Rattle.actor_net.specs.Schedules.{StopsShort}
 use Rattle.actor_net.proofs.ScheduleLaws.{scheduled_is_run}
-use Rattle.strong_share.specs.declared.note.StrongNote.{StrongNote}
-use Rattle.strong_share.specs.declared.node.StrongNode.{StrongNode}
-use Rattle.strong_share.specs.Tables.{node_ready, node_step, node_ended}
-use Rattle.strong_share.specs.Start.{StrongJob, IsStrongJob, strong_start}
-use Rattle.strong_share.specs.Runs.{choices_of}
-use Rattle.strong_share.specs.Promises.{StrongPromises, StrongCompleted, StrongEnds}
 use Rattle.strong_share.proofs.Starts.{run_reached}
 use Rattle.strong_share.proofs.Kept.{promised, completed}
 use Rattle.strong_share.proofs.Ending.{none_stuck, run_ends, run_short}

@@ -1,20 +1,7 @@
 -- A world of strong sharing as functions of its members: a scene, which of its messages may be taken, and what it is after that.
-use Rattle.std.proofs.Common.{◌≡◌, ℕ, ◌+◌, ◌<◌, true, List, [], ◌∷◌, ◌++◌, map, length, get_or}
-use Rattle.std.specs.Prelude.{if◌then◌else◌, ◌==◌}
-use Rattle.nf_function.specs.Semantics.{Semantics}
-use Rattle.nf_msgs.specs.declared.msg.Msg.{Msg}
-use Rattle.nf_msgs.specs.declared.note.Note.{Note}
-use Rattle.instance_worker.specs.declared.instance.Instance.{Instance as InstanceState}
-use Rattle.instance_worker.specs.Instance.{instance_step}
-use Rattle.actor_net.specs.Network.{Network, Stepped, queue_at}
-use Rattle.actor_net.specs.Histories.{sent_for}
-use Rattle.actor_net.proofs.EnabledChoices.{at}
-use Rattle.strong_share.specs.declared.note.StrongNote.{StrongNote}
-use Rattle.strong_share.specs.declared.note.StrongNote.TheVariants.{Inner}
-use Rattle.strong_share.specs.Parts.{SwitchState, ControllerState}
-use Rattle.strong_share.specs.declared.node.StrongNode.{StrongNode}
-use Rattle.strong_share.specs.declared.node.StrongNode.TheVariants.{Switch, Ctrl as Controller, Instance}
-use Rattle.strong_share.specs.Tables.{switch_step, takes_in, controller_step}
+use Rattle.strong_share.proofs.Words.{◌≡◌, ℕ, ◌+◌, ◌<◌, true, List, [], ◌∷◌, ◌++◌, map, length, get_or, if◌then◌else◌, ◌==◌, Semantics, Msg, Note}
+use Rattle.strong_share.proofs.Words.{InstanceState, instance_step, Network, Stepped, queue_at, sent_for, at, StrongNote, Inner, SwitchState, ControllerState}
+use Rattle.strong_share.proofs.Words.{StrongNode, Switch, Controller, Instance, switch_step, takes_in, controller_step}
 use Rattle.strong_share.proofs.Lists.{put}
 
 pub record Scene (F R : Type 0) : Type 0 where

@@ -1,24 +1,11 @@
 -- How packets are served: where the one that is out is, what each member's records have seen, and that each step goes on so. Of a scene this
 -- looks at what follows (`Sight`), member by member.
-use Rattle.std.proofs.Common.{◌≡◌, ℕ, zero, suc, ◌+◌, ◌<◌, ◌≤◌, Bool, true, false, Option, None, List}
-use Rattle.std.proofs.Common.{[], ◌∷◌, ◌++◌, map, refl, sym, ap, subst, ◌∙◌, append_assoc, append-nil}
-use Rattle.std.specs.Prelude.{if◌then◌else◌, ◌==◌, filter}
-use Rattle.nf_function.specs.declared.chunk.Chunk.{Chunk}
+use Rattle.strong_share.proofs.Words.{◌≡◌, ℕ, zero, suc, ◌+◌, ◌<◌, ◌≤◌, Bool, true, false, Option, None, List, [], ◌∷◌, ◌++◌, map, refl, sym, ap, subst, ◌∙◌}
+use Rattle.strong_share.proofs.Words.{append_assoc, append-nil, if◌then◌else◌, ◌==◌, filter, Chunk, takes, Semantics, record_chunk, FullCell, Msg, Carry, Sync}
+use Rattle.strong_share.proofs.Words.{Each, each-append, Serving, Idle, Out, Syncing, QueuedPacket, the_share, is_home, StrongJob, packet_numbered, is_taken}
+use Rattle.strong_share.proofs.Words.{member_of}
 use Rattle.nf_function.specs.declared.unit.Unit as units
-use Rattle.nf_function.specs.Units.{takes}
-use Rattle.nf_function.specs.Semantics.{Semantics}
-use Rattle.state_chunk.specs.Format.{record_chunk}
 use Rattle.event_filter.specs.declared.mark.Mark.TheVariants as mark
-use Rattle.packet_pool.specs.Pool.{FullCell}
-use Rattle.nf_msgs.specs.declared.msg.Msg.{Msg}
-use Rattle.nf_msgs.specs.declared.msg.Msg.TheVariants.{Carry, Sync}
-use Rattle.actor_net.proofs.WeightLaws.{Each, each-append}
-use Rattle.strong_share.specs.declared.serving.Serving.{Serving}
-use Rattle.strong_share.specs.declared.serving.Serving.TheVariants.{Idle, Out, Syncing}
-use Rattle.strong_share.specs.declared.queued_packet.QueuedPacket.{QueuedPacket}
-use Rattle.strong_share.specs.Tables.{the_share, is_home}
-use Rattle.strong_share.specs.Start.{StrongJob}
-use Rattle.strong_share.specs.Words.{packet_numbered, is_taken, member_of}
 use Rattle.strong_share.proofs.Folds.{unit, after, seen}
 
 -- the number of a cell's packet, and of one that waits

@@ -1,29 +1,13 @@
 -- The rows of a member that takes what the controller sends keep what every scene of a run keeps: the packet that is out, and the record of one.
-use Rattle.std.proofs.Common.{◌≡◌, ℕ, ◌+◌, ◌<◌, true, false, Option, None, Some, List, [], ◌∷◌, ◌++◌, map, refl, sym, ap, subst, ◌∙◌, append-nil}
-use Rattle.std.specs.Prelude.{if◌then◌else◌, ◌==◌, not, filter, flat_map}
-use Rattle.std.proofs.lemmas.Bool.Decides.{Decides-eqb}
+use Rattle.strong_share.proofs.Words.{◌≡◌, ℕ, ◌+◌, ◌<◌, true, false, Option, None, Some, List, [], ◌∷◌, ◌++◌, map, refl, sym, ap, subst, ◌∙◌, append-nil}
+use Rattle.strong_share.proofs.Words.{if◌then◌else◌, ◌==◌, not, filter, flat_map, Decides-eqb, Output, takes, Laws, Semantics, unit_at, kept_after, output_for}
+use Rattle.strong_share.proofs.Words.{record_chunk, same_unit, part, Msg, Carry, Shared, Sync, Synced, Credit, Note, Processed, InstanceState, Step}
+use Rattle.strong_share.proofs.Words.{instance_processed, instance_step, keep_note, sent_for, Each, Inner, QueuedPacket, the_share, is_home, StrongJob}
+use Rattle.strong_share.proofs.Words.{IsStrongJob, entries, events_of, arrivals_in, done_numbers, packet_numbered, is_taken, is_taken_at, is_of, fold}
+use Rattle.strong_share.proofs.Words.{processed_of}
 use Rattle.std.specs.FinMap as finite
-use Rattle.nf_function.specs.declared.output.Output.{Output}
 use Rattle.nf_function.specs.declared.unit.Unit as units
-use Rattle.nf_function.specs.Units.{takes}
-use Rattle.nf_function.specs.Records.{Laws}
-use Rattle.nf_function.specs.Semantics.{Semantics, unit_at, kept_after, output_for}
-use Rattle.state_chunk.specs.Format.{record_chunk}
-use Rattle.record_table.specs.Table.{same_unit, part}
 use Rattle.event_filter.specs.declared.mark.Mark.TheVariants as mark
-use Rattle.nf_msgs.specs.declared.msg.Msg.{Msg}
-use Rattle.nf_msgs.specs.declared.msg.Msg.TheVariants.{Carry, Shared, Sync, Synced, Credit}
-use Rattle.nf_msgs.specs.declared.note.Note.{Note}
-use Rattle.nf_msgs.specs.declared.note.Note.TheVariants.{Processed}
-use Rattle.instance_worker.specs.declared.instance.Instance.{Instance as InstanceState}
-use Rattle.instance_worker.specs.Instance.{Step, process_step as instance_processed, instance_step, keep_note}
-use Rattle.actor_net.specs.Histories.{sent_for}
-use Rattle.actor_net.proofs.WeightLaws.{Each}
-use Rattle.strong_share.specs.declared.note.StrongNote.TheVariants.{Inner}
-use Rattle.strong_share.specs.declared.queued_packet.QueuedPacket.{QueuedPacket}
-use Rattle.strong_share.specs.Tables.{the_share, is_home}
-use Rattle.strong_share.specs.Start.{StrongJob, IsStrongJob}
-use Rattle.strong_share.specs.Words.{entries, events_of, arrivals_in, done_numbers, packet_numbered, is_taken, is_taken_at, is_of, fold, processed_of}
 use Rattle.strong_share.proofs.Lists.{put, filter_among, filter_no_more, one_two, zero_two}
 use Rattle.strong_share.proofs.Folds.{fits, unit, after, seen, unit_taken, kept_is, seen_sound, unit_own, unit_swapped}
 use Rattle.strong_share.proofs.MemberRows.{Leaves, TakesRecord, serves, shared_leaves, sync_leaves}
@@ -35,7 +19,8 @@ use Rattle.strong_share.proofs.Reading.{packet_in, plain_in, event_in, answer_in
 use Rattle.strong_share.proofs.Holding.{IsRight, sight, Holds}
 use Rattle.strong_share.proofs.MemberScenes.{left_by, left_is, labelled_left, ordered_quiet, own_is, other_is, ends_left_by}
 use Rattle.strong_share.proofs.OtherPackets.{answered_more}
-use Rattle.strong_share.proofs.LogLemmas.{arrived-append, entries-append, done_numbers-append, member_numbers, entry_numbers, IsQuiet, quiet_log, answered_same}
+use Rattle.strong_share.proofs.LogLemmas.{arrived-append, entries-append, done_numbers-append, member_numbers, entry_numbers, IsQuiet, quiet_log}
+use Rattle.strong_share.proofs.LogLemmas.{answered_same}
 
 module _ {F R : Type 0} (f : Semantics R) (laws : Laws f) (job : StrongJob) (job_is : IsStrongJob f.kind job) (x : Scene F R) (h : Holds f job x) where
   -- The packet that is out comes to its member.

@@ -1,24 +1,11 @@
 -- A choice that can be taken takes a message of the scene, and leaves a world that is the next scene.
-use Rattle.std.proofs.Common.{◌≡◌, ◌≢◌, ℕ, zero, suc, ◌+◌, ◌<◌, Bool, true, false, List, [], ◌∷◌}
-use Rattle.std.proofs.Common.{◌++◌, map, drop, get_or, refl, sym, ap, subst, ◌∙◌, append-nil, arith}
-use Rattle.std.specs.Prelude.{if◌then◌else◌, ◌==◌, ◌&&◌, not, nat_lt}
-use Rattle.std.proofs.Math.Bool.{and-false, and-true}
-use Rattle.std.proofs.lemmas.Bool.Decides.{Decides-eqb, Decides-ltb}
-use Rattle.nf_function.specs.Semantics.{Semantics}
-use Rattle.nf_msgs.specs.declared.msg.Msg.{Msg}
-use Rattle.nf_msgs.specs.declared.note.Note.{Note}
-use Rattle.instance_worker.specs.declared.instance.Instance.{Instance as InstanceState}
-use Rattle.instance_worker.specs.Instance.{instance_step}
-use Rattle.actor_net.specs.Network.{Network, Stepped, queue_at, world_next, reaches}
-use Rattle.actor_net.specs.Histories.{sent_for}
-use Rattle.actor_net.proofs.EnabledChoices.{at}
+use Rattle.strong_share.proofs.Words.{◌≡◌, ◌≢◌, ℕ, zero, suc, ◌+◌, ◌<◌, Bool, true, false, List, [], ◌∷◌, ◌++◌, map, drop, get_or, refl, sym, ap, subst, ◌∙◌}
+use Rattle.strong_share.proofs.Words.{append-nil, arith, if◌then◌else◌, ◌==◌, ◌&&◌, not, nat_lt, and-false, Decides-eqb, Decides-ltb, Semantics, Msg, Note}
+use Rattle.strong_share.proofs.Words.{InstanceState, instance_step, Network, Stepped, queue_at, world_next, reaches, sent_for, at, StrongNote, Inner}
+use Rattle.strong_share.proofs.Words.{StrongNode, Switch, Controller, Instance, node_step, node_ready, switch_step, controller_step}
+use Rattle.std.proofs.Math.Bool.{and-true}
 use Rattle.actor_net.proofs.WaitingMessages.{less_first}
 use Rattle.actor_net.proofs.StepOutcome.{Takes, Outcome, taken_outcome}
-use Rattle.strong_share.specs.declared.note.StrongNote.{StrongNote}
-use Rattle.strong_share.specs.declared.note.StrongNote.TheVariants.{Inner}
-use Rattle.strong_share.specs.declared.node.StrongNode.{StrongNode}
-use Rattle.strong_share.specs.declared.node.StrongNode.TheVariants.{Switch, Ctrl as Controller, Instance}
-use Rattle.strong_share.specs.Tables.{node_step, node_ready, switch_step, controller_step}
 use Rattle.strong_share.proofs.Lists.{put, two_two, two_zero, two_one, zero_two, one_two}
 use Rattle.strong_share.proofs.Scenes.{Scene, Shows, switch_did, controller_did, member_did, Goes, Goes.From_input, Goes.From_down, Goes.From_home}
 use Rattle.strong_share.proofs.Scenes.{Goes.From_up, Goes.From_back, Goes.From_out, Goes.From_to, next_scene, Confined, message_of, sends_of, node_of}

@@ -1,25 +1,14 @@
 -- The chunk of a packet goes round: the steps that send, take and answer it.
-use Rattle.std.proofs.Common.{◌≡◌, ℕ, ◌+◌, ◌-◌, ◌<◌, ◌≤◌, true, false, None, List, [], ◌∷◌, ◌++◌, map, refl, sym, ap, subst, ◌∙◌, append-nil, arith}
-use Rattle.std.specs.Prelude.{if◌then◌else◌, ◌==◌}
-use Rattle.std.proofs.lemmas.Bool.Decides.{Decides-eqb}
-use Rattle.nf_function.specs.declared.chunk.Chunk.{Chunk}
+use Rattle.strong_share.proofs.Words.{◌≡◌, ℕ, ◌+◌, ◌-◌, ◌<◌, ◌≤◌, true, false, None, List, [], ◌∷◌, ◌++◌, map, refl, sym, ap, subst, ◌∙◌, append-nil, arith}
+use Rattle.strong_share.proofs.Words.{if◌then◌else◌, ◌==◌, Decides-eqb, Chunk, takes, Laws, Semantics, Msg, Carry, Sync, Idle, Syncing, QueuedPacket}
+use Rattle.strong_share.proofs.Words.{the_share, is_home, StrongJob, IsStrongJob}
 use Rattle.nf_function.specs.declared.unit.Unit as units
-use Rattle.nf_function.specs.Units.{takes}
-use Rattle.nf_function.specs.Records.{Laws}
-use Rattle.nf_function.specs.Semantics.{Semantics}
 use Rattle.event_filter.specs.declared.mark.Mark.TheVariants as mark
-use Rattle.nf_msgs.specs.declared.msg.Msg.{Msg}
-use Rattle.nf_msgs.specs.declared.msg.Msg.TheVariants.{Carry, Sync}
-use Rattle.strong_share.specs.declared.serving.Serving.TheVariants.{Idle, Syncing}
-use Rattle.strong_share.specs.declared.queued_packet.QueuedPacket.{QueuedPacket}
-use Rattle.strong_share.specs.Tables.{the_share, is_home}
-use Rattle.strong_share.specs.Start.{StrongJob, IsStrongJob}
 use Rattle.strong_share.proofs.Lists.{put}
 use Rattle.strong_share.proofs.Folds.{seen}
-use Rattle.strong_share.proofs.ServedPackets.{raised_number, Answer, Answer.Told, Answer.Took, Turn, Turn.Going, Turn.Coming}
-use Rattle.strong_share.proofs.ServedPackets.{Turn.Quiet, is_going, is_pending, one_if, pending, Stage, Stage.Resting, Stage.Carries}
-use Rattle.strong_share.proofs.ServedPackets.{Stage.Tells, Stage.Spreads, Sight, IsRaised, chunk_after, goes_to, comes_from, to_of}
-use Rattle.strong_share.proofs.ServedPackets.{answers_of, all_of, waits_of, FitsSpread, FitsStage, expected, Serves, Rests}
+use Rattle.strong_share.proofs.ServedPackets.{raised_number, Answer, Answer.Told, Answer.Took, Turn, Turn.Going, Turn.Coming, Turn.Quiet, is_going, is_pending}
+use Rattle.strong_share.proofs.ServedPackets.{one_if, pending, Stage, Stage.Resting, Stage.Carries, Stage.Tells, Stage.Spreads, Sight, IsRaised, chunk_after}
+use Rattle.strong_share.proofs.ServedPackets.{goes_to, comes_from, to_of, answers_of, all_of, waits_of, FitsSpread, FitsStage, expected, Serves, Rests}
 use Rattle.strong_share.proofs.Turns.{pending_put, none_pending, all_but, pending_all_but}
 
 module _ {R : Type 0} (f : Semantics R) (laws : Laws f) (job : StrongJob) (is : IsStrongJob f.kind job) where

@@ -1,11 +1,8 @@
 -- How many nodes there are at the start.
-use Rattle.std.proofs.Common.{◌≡◌, ℕ, ◌<◌, List, length, ap, arith}
-use Rattle.std.specs.declared.alloc.Global.{Global}
+use Rattle.strong_share.proofs.Words.{◌≡◌, ℕ, ◌<◌, List, length, ap, arith, Global, StrongNode, Instance, StrongJob, IsStrongJob, first_member, first_members}
 use Rattle.std.proofs.lemmas.List.FromFn.{length-map-range_with_len}
 use Rattle.nf_function.specs.declared.kind.Kind.{Kind}
-use Rattle.strong_share.specs.declared.node.StrongNode.{StrongNode}
-use Rattle.strong_share.specs.declared.node.StrongNode.TheVariants.{Instance}
-use Rattle.strong_share.specs.Start.{StrongJob, IsStrongJob, first_member, first_members, first_nodes}
+use Rattle.strong_share.specs.Start.{first_nodes}
 
 pub length-first_members : (F R : Type 0) (alloc : Global) (job : StrongJob) (n : ℕ) → length (first_members {F = F} {R = R} alloc job n) ≡ n
 length-first_members F R alloc job n = length-map-range_with_len (λ i. Instance (first_member {F = F} {R = R} alloc job i)) 0 n

@@ -1,29 +1,17 @@
 -- The start is a scene that keeps it all, and so does every run.
-use Rattle.std.proofs.Common.{◌≡◌, ℕ, suc, ◌+◌, ◌<◌, Bool, true, false, Option, None, Some, List, [], ◌∷◌, map, length, get_or, refl, ap, ◌∙◌, arith}
-use Rattle.std.specs.Prelude.{if◌then◌else◌, ◌==◌, ◌&&◌, find, unwrap_or, flat_map, not}
-use Rattle.std.specs.declared.alloc.Global.{Global}
+use Rattle.strong_share.proofs.Words.{◌≡◌, ℕ, suc, ◌+◌, ◌<◌, Bool, true, false, Option, None, Some, List, [], ◌∷◌, map, length, get_or, refl, ap, ◌∙◌, arith}
+use Rattle.strong_share.proofs.Words.{if◌then◌else◌, ◌==◌, ◌&&◌, flat_map, not, Global, nat_tests, Packet, takes, Laws, Semantics, part, Msg, Choice, Network}
+use Rattle.strong_share.proofs.Words.{IsWorld, IsRun, run, world_next, queue_at, at, NextChoice, run_induction, Each, weigh, StrongNote, StrongNode, Instance}
+use Rattle.strong_share.proofs.Words.{node_step, node_ready, is_home, StrongJob, IsStrongJob, input_of, first_switch, first_controller, first_member}
+use Rattle.strong_share.proofs.Words.{first_members, strong_start, one_by_one}
+use Rattle.std.specs.Prelude.{find, unwrap_or}
 use Rattle.std.specs.FinMap as finite
-use Rattle.std.proofs.lemmas.Bool.Decides.{nat_tests}
 use Rattle.std.proofs.lemmas.List.FromFn.{get_or-map-range_with_len}
-use Rattle.flow_filter.specs.declared.packet.Packet.{Packet}
 use Rattle.nf_function.specs.declared.unit.Unit as units
-use Rattle.nf_function.specs.Units.{takes, unit_cmp}
-use Rattle.nf_function.specs.Records.{Laws}
-use Rattle.nf_function.specs.Semantics.{Semantics}
-use Rattle.record_table.specs.Table.{part, empty}
-use Rattle.nf_msgs.specs.declared.msg.Msg.{Msg}
-use Rattle.actor_net.specs.declared.choice.Choice.{Choice}
-use Rattle.actor_net.specs.Network.{Network, IsWorld, IsRun, run, world_next, queue_at}
-use Rattle.actor_net.proofs.EnabledChoices.{at}
+use Rattle.nf_function.specs.Units.{unit_cmp}
+use Rattle.record_table.specs.Table.{empty}
 use Rattle.actor_net.proofs.OpeningWorlds.{opening_world, opening_waiting}
-use Rattle.actor_net.proofs.RunInduction.{NextChoice, run_induction}
-use Rattle.actor_net.proofs.WeightLaws.{Each, weigh}
-use Rattle.strong_share.specs.declared.note.StrongNote.{StrongNote}
-use Rattle.strong_share.specs.declared.node.StrongNode.{StrongNode}
-use Rattle.strong_share.specs.declared.node.StrongNode.TheVariants.{Instance}
-use Rattle.strong_share.specs.Tables.{node_step, node_ready, is_home}
-use Rattle.strong_share.specs.Start.{StrongJob, IsStrongJob, input_of, first_switch, first_controller, first_member, first_members, strong_start}
-use Rattle.net_world.proofs.FoundPackets.{found_each, one_by_one}
+use Rattle.net_world.proofs.FoundPackets.{found_each}
 use Rattle.strong_share.proofs.Scenes.{Scene, Shows, next_scene}
 use Rattle.strong_share.proofs.Shown.{found}
 use Rattle.strong_share.proofs.ServedPackets.{Stage.Resting}

@@ -1,21 +1,12 @@
 -- Each message that may be taken is one of its link's, and the step keeps what every scene of a run keeps.
-use Rattle.std.proofs.Common.{◌≡◌, ℕ, ◌+◌, ◌<◌, Bool, true, false, List, [], ◌∷◌, refl, sym, ap, subst, ◌∙◌, arith}
-use Rattle.flow_filter.specs.declared.packet.Packet.{Packet}
-use Rattle.nf_function.specs.declared.chunk.Chunk.{Chunk}
-use Rattle.nf_function.specs.Records.{Laws}
-use Rattle.nf_function.specs.Semantics.{Semantics}
+use Rattle.strong_share.proofs.Words.{◌≡◌, ℕ, ◌+◌, ◌<◌, Bool, true, false, List, [], ◌∷◌, refl, sym, ap, subst, ◌∙◌, arith, Packet, Chunk, Laws, Semantics}
+use Rattle.strong_share.proofs.Words.{FullCell, Msg, InPacket, InEnd, End, Finish, Carry, Stop, Event, Shared, Sync, Synced, Final, Credit, instance_step}
+use Rattle.strong_share.proofs.Words.{sent_for, the_share, is_home, switch_step, takes_in, controller_step, row_of_member, with_event, StrongJob, IsStrongJob}
+use Rattle.strong_share.proofs.Words.{is_taken}
 use Rattle.event_filter.specs.declared.mark.Mark.TheVariants as mark
-use Rattle.packet_pool.specs.Pool.{FullCell}
-use Rattle.nf_msgs.specs.declared.msg.Msg.{Msg}
-use Rattle.nf_msgs.specs.declared.msg.Msg.TheVariants.{InPacket, InEnd, End, Finish, Carry, Stop, Event, Shared, Sync, Synced, Final, Credit}
-use Rattle.instance_worker.specs.Instance.{instance_step}
-use Rattle.actor_net.specs.Histories.{sent_for}
-use Rattle.strong_share.specs.Tables.{the_share, is_home, switch_step, takes_in, controller_step, row_of_member, with_event}
-use Rattle.strong_share.specs.Start.{StrongJob, IsStrongJob}
-use Rattle.strong_share.specs.Words.{is_taken}
 use Rattle.strong_share.proofs.Lists.{put, two_one}
-use Rattle.strong_share.proofs.Scenes.{Scene, switch_did, controller_did, member_did, Goes, Goes.From_input, Goes.From_down}
-use Rattle.strong_share.proofs.Scenes.{Goes.From_home, Goes.From_up, Goes.From_back, Goes.From_out, Goes.From_to, next_scene, Confined}
+use Rattle.strong_share.proofs.Scenes.{Scene, switch_did, controller_did, member_did, Goes, Goes.From_input, Goes.From_down, Goes.From_home, Goes.From_up}
+use Rattle.strong_share.proofs.Scenes.{Goes.From_back, Goes.From_out, Goes.From_to, next_scene, Confined}
 use Rattle.strong_share.proofs.ServedPackets.{number, chunk_after}
 use Rattle.strong_share.proofs.Spreading.{Comes, Comes.Packet_comes, Comes.Record_comes, comes_is}
 use Rattle.strong_share.proofs.SyncSends.{syncs_other}

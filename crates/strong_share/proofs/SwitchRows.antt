@@ -1,36 +1,21 @@
 -- The rows of the switch keep what every scene of a run keeps.
-use Rattle.std.proofs.Common.{◌≡◌, ℕ, ◌+◌, ◌-◌, ◌%◌, ◌<◌, Bool, true, false, List, [], ◌∷◌, ◌++◌}
-use Rattle.std.proofs.Common.{map, refl, sym, ap, subst, ◌∙◌, append_assoc, append-nil, arith}
-use Rattle.std.specs.Prelude.{if◌then◌else◌, ◌==◌, not, filter, flat_map}
-use Rattle.std.proofs.Math.Bool.{and-false}
-use Rattle.std.proofs.lemmas.List.Concat.{flat_map-append}
-use Rattle.std.proofs.lemmas.List.Elements.{filter-append}
-use Rattle.flow_filter.specs.declared.packet.Packet.{Packet}
-use Rattle.flow_filter.specs.Filter.{matches}
-use Rattle.flow_filter.specs.Flow.{flow_of}
-use Rattle.nf_function.specs.Semantics.{Semantics}
+use Rattle.strong_share.proofs.Words.{◌≡◌, ℕ, ◌+◌, ◌-◌, ◌%◌, ◌<◌, Bool, true, false, List, [], ◌∷◌, ◌++◌, map, refl, sym, ap, subst, ◌∙◌, append_assoc}
+use Rattle.strong_share.proofs.Words.{append-nil, arith, if◌then◌else◌, ◌==◌, not, filter, flat_map, and-false, flat_map-append, filter-append, Packet}
+use Rattle.strong_share.proofs.Words.{matches, flow_of, Semantics, FullCell, Msg, InPacket, InEnd, End, Finish, Carry, Stop, Credit, instance_node, sent_for}
+use Rattle.strong_share.proofs.Words.{Each, each-append, weigh, weigh-append, Inner, SwitchStep, switch_still, switch_step, StrongJob, events_of, arrivals_in}
+use Rattle.strong_share.proofs.Words.{done_numbers, packet_numbered, is_taken, member_of, is_taken_at, stop_messages}
 use Rattle.event_filter.specs.declared.mark.Mark.TheVariants as mark
-use Rattle.packet_pool.specs.Pool.{FullCell}
 use Rattle.packet_window.specs.Window.{has_room, with_one, with_home, with_end}
 use Rattle.packet_window.proofs.WindowLemmas.{one_balanced, home_balanced, home_name, home_cells, home_closed}
-use Rattle.nf_msgs.specs.declared.msg.Msg.{Msg}
-use Rattle.nf_msgs.specs.declared.msg.Msg.TheVariants.{InPacket, InEnd, End, Finish, Carry, Stop, Credit}
 use Rattle.nf_msgs.specs.declared.note.Note.TheVariants.{Arrived}
-use Rattle.nf_msgs.specs.Nodes.{instance_node}
-use Rattle.actor_net.specs.Histories.{sent_for}
-use Rattle.actor_net.proofs.WeightLaws.{Each, each-append, weigh, weigh-append}
-use Rattle.strong_share.specs.declared.note.StrongNote.TheVariants.{Inner}
-use Rattle.strong_share.specs.Tables.{SwitchStep, switch_still, member_for, switch_step}
-use Rattle.strong_share.specs.Start.{StrongJob}
-use Rattle.strong_share.specs.Words.{events_of, arrivals_in, done_numbers, packet_numbered, is_taken, member_of, is_taken_at}
+use Rattle.strong_share.specs.Tables.{member_for}
 use Rattle.strong_share.proofs.Lists.{put, two_one, swapped, one_two}
 use Rattle.strong_share.proofs.Scenes.{Scene, switch_did}
 use Rattle.strong_share.proofs.ServedPackets.{one_if, Agrees, serves_alike, tight_alike}
-use Rattle.strong_share.proofs.Reading.{packet_in, plain_in, end_in, stop_in, more_at, each_taken}
-use Rattle.strong_share.proofs.Reading.{each_at, head_of, sent_one, stops_sent, stops_other, event_in}
+use Rattle.strong_share.proofs.Reading.{packet_in, plain_in, end_in, stop_in, more_at, each_taken, each_at, head_of, sent_one, stops_sent, stops_other}
+use Rattle.strong_share.proofs.Reading.{event_in}
 use Rattle.strong_share.proofs.Holding.{in_label, up_label, down_label, out_label, home_label, IsSwitch, IsRight, ends_left, sight, Holds, end_moves}
 use Rattle.strong_share.proofs.LogLemmas.{arrived-append, entry_numbers, member_numbers, IsQuiet, quiet_log, answered_same}
-use Rattle.switch_node.specs.Switch.{stop_messages}
 
 -- what it brings to each member
 brought : (mine : ℕ → Bool) (b : Bool) (p : ℕ) → (b ≡ false → mine p ≡ false) → filter mine (if b then p ∷ [] else []) ≡ (if mine p then p ∷ [] else [])

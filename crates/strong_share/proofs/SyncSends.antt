@@ -1,12 +1,6 @@
 -- The Syncs with one chunk, to each member but one.
-use Rattle.std.proofs.Common.{◌≡◌, ℕ, zero, suc, ◌+◌, ◌<◌, Bool, true, false, List, [], ◌∷◌, ◌++◌, refl, ap, ◌∙◌}
-use Rattle.std.specs.Prelude.{if◌then◌else◌, ◌==◌}
-use Rattle.nf_function.specs.declared.chunk.Chunk.{Chunk}
-use Rattle.nf_msgs.specs.declared.msg.Msg.{Msg}
-use Rattle.nf_msgs.specs.declared.msg.Msg.TheVariants.{Sync}
-use Rattle.nf_msgs.specs.Nodes.{instance_node}
-use Rattle.actor_net.specs.Histories.{sent_for}
-use Rattle.strong_share.specs.Tables.{the_share, is_home, syncs}
+use Rattle.strong_share.proofs.Words.{◌≡◌, ℕ, zero, suc, ◌+◌, ◌<◌, Bool, true, false, List, [], ◌∷◌, ◌++◌, refl, ap, ◌∙◌, if◌then◌else◌, ◌==◌, Chunk, Msg}
+use Rattle.strong_share.proofs.Words.{Sync, instance_node, sent_for, the_share, is_home, syncs}
 use Rattle.strong_share.proofs.MemberLists.{syncs_more}
 use Rattle.strong_share.proofs.Reading.{sent_one, sent_each, sent-append}
 

@@ -1,9 +1,7 @@
 -- How many members have yet to answer, where a turn changes and where the chunk goes to all but one; and any such count where one changes.
-use Rattle.std.proofs.Common.{◌≡◌, ℕ, zero, suc, ◌+◌, ◌<◌, ◌≤◌, Bool, true, false, refl, ap, arith}
-use Rattle.std.specs.Prelude.{if◌then◌else◌, ◌==◌}
-use Rattle.std.proofs.lemmas.Bool.Decides.{nat_tests, Decides-eqb}
+use Rattle.strong_share.proofs.Words.{◌≡◌, ℕ, zero, suc, ◌+◌, ◌<◌, ◌≤◌, Bool, true, false, refl, ap, arith, if◌then◌else◌, ◌==◌, nat_tests, Decides-eqb}
 use Rattle.strong_share.proofs.Lists.{put}
-use Rattle.strong_share.proofs.ServedPackets.{Turn, Turn.Going, Turn.Coming, Turn.Quiet, is_pending, one_if, count_below, pending}
+use Rattle.strong_share.proofs.ServedPackets.{Turn, Turn.Going, Turn.Quiet, is_pending, one_if, count_below, pending}
 
 -- a count after one of those that are counted changes
 module _ {X : Type 0} (test : X → Bool) (g : ℕ → X) (j : ℕ) (y : X) where
@@ -46,9 +44,8 @@ none_pending at (suc n) none k there = elim (k == n) as (λ b. (k == n) ≡ b �
 ] refl
   where
     by : (t : Turn) → one_if (is_pending t) ≡ 0 → t ≡ Quiet
-    by Going e = absurd (omega (arith, e))
-    by Coming e = absurd (omega (arith, e))
     by Quiet e = refl
+    by x e = absurd (omega (arith, e))
 
 -- to all but one
 abbrev pub all_but : ℕ → ℕ → Turn

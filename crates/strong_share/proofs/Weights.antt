@@ -1,25 +1,14 @@
 -- What messages weigh: a run can't be longer than what it weighs at first; and how many cells and stopped members there are.
-use Rattle.std.proofs.Common.{◌≡◌, ℕ, zero, suc, ◌+◌, ◌*◌, ◌<◌, ◌≤◌, Bool, true, false, List, [], ◌∷◌, ◌++◌, length, refl, ap, subst, ◌∙◌, arith}
-use Rattle.std.specs.Prelude.{if◌then◌else◌, ◌==◌, ◌&&◌, not, nat_lt}
-use Rattle.std.proofs.lemmas.Bool.Decides.{nat_tests, Decides-eqb, Decides-ltb}
-use Rattle.nf_function.specs.declared.chunk.Chunk.{Chunk}
+use Rattle.strong_share.proofs.Words.{◌≡◌, ℕ, zero, suc, ◌+◌, ◌*◌, ◌<◌, ◌≤◌, Bool, true, false, List, [], ◌∷◌, ◌++◌, length, refl, ap, subst, ◌∙◌, arith}
+use Rattle.strong_share.proofs.Words.{if◌then◌else◌, ◌==◌, ◌&&◌, not, nat_lt, nat_tests, Decides-eqb, Decides-ltb, Chunk, Msg, InPacket, InEnd, End, Finish}
+use Rattle.strong_share.proofs.Words.{Carry, Stop, Event, Shared, Sync, Synced, Final, Credit, instance_node, InstanceState, reaches, Each, weigh}
+use Rattle.strong_share.proofs.Words.{weigh-append, sent_weight, Serving, Idle, QueuedPacket, ControllerState, serve_row, serve_step, syncs, is_home}
+use Rattle.strong_share.proofs.Words.{the_share, sync_to, stop_messages}
 use Rattle.event_filter.specs.declared.mark.Mark.TheVariants as mark
-use Rattle.nf_msgs.specs.declared.msg.Msg.{Msg}
-use Rattle.nf_msgs.specs.declared.msg.Msg.TheVariants.{InPacket, InEnd, End, Finish, Carry, Stop, Event, Shared, Sync, Synced, Final, Credit}
-use Rattle.nf_msgs.specs.Nodes.{instance_node}
-use Rattle.instance_worker.specs.declared.instance.Instance.{Instance as InstanceState}
-use Rattle.actor_net.specs.Network.{reaches}
-use Rattle.actor_net.proofs.WeightLaws.{Each, weigh, weigh-append, sent_weight}
-use Rattle.strong_share.specs.declared.serving.Serving.{Serving}
-use Rattle.strong_share.specs.declared.serving.Serving.TheVariants.{Idle}
-use Rattle.strong_share.specs.declared.queued_packet.QueuedPacket.{QueuedPacket}
-use Rattle.strong_share.specs.Parts.{ControllerState}
-use Rattle.strong_share.specs.Tables.{serve_row, serve_step, syncs, is_home, the_share, sync_to}
 use Rattle.strong_share.proofs.Lists.{put, two_zero}
 use Rattle.strong_share.proofs.MemberLists.{sync_of, syncs_more}
 use Rattle.strong_share.proofs.ServedPackets.{count_below, one_if}
 use Rattle.strong_share.proofs.Turns.{count_put}
-use Rattle.switch_node.specs.Switch.{stop_messages}
 
 -- each choice that a message leads to, itself included, where there are so many members beside one
 abbrev pub weight : ℕ → Msg → ℕ

@@ -1,7 +1,7 @@
 //! The controller of strong sharing: it queues the packets that members raise, and serves them one at a time.
-ghost use Rattle.std.specs.Prelude.{◌≡◌, ◌≤◌, ◌<◌, [], ◌++◌, IfOk, IfSome, OnOk};
-ghost use Rattle.strong_share.specs.Tables.{all_stopped, controller_step, member_at, on_event, on_final};
-ghost use Rattle.strong_share.specs.Tables.{row_of_member, row_of_switch, serve_step, shared_row, synced_row, syncs};
+ghost use Rattle.std.specs.Prelude.{◌≡◌, ◌≤◌, ◌<◌, [], ◌∷◌, ◌++◌, IfOk, IfSome, OnOk};
+ghost use Rattle.strong_share.specs.Tables.{all_stopped, controller_step, is_idle, member_at, on_event, on_final};
+ghost use Rattle.strong_share.specs.Tables.{row_of_member, row_of_switch, serve_step, shared_row, sync_to, synced_row, syncs};
 
 use crate::note::StrongNote;
 use crate::queued_packet::QueuedPacket;
@@ -67,7 +67,14 @@ impl StrongCtrl {
     pub(crate) fn ended(&self) -> bool
         ensures { result ≡ all_stopped self.now }
     {
-        self.finals == self.members && self.queue.is_empty() && self.serving == Serving::Idle
+        self.finals == self.members && self.queue.is_empty() && self.is_idle()
+    }
+
+    /// Whether no packet is out.
+    fn is_idle(&self) -> bool
+        ensures { result ≡ is_idle self.now.serving }
+    {
+        matches!(self.serving, Serving::Idle)
     }
 
     /// Takes a message from a port: its row of the table.
@@ -123,7 +130,10 @@ impl StrongCtrl {
                 self.count_final();
                 Ok(())
             }
-            _ => Ok(()),
+            _ => {
+                drop(message);
+                Ok(())
+            }
         }
     }
 
@@ -140,9 +150,12 @@ impl StrongCtrl {
         ensures notes { OnOk result (out.new.1 ≡ out.old.1 ++ (on_event self.old member cell).notes) }
     {
         let number = cell.packet().number;
+        let raised = QueuedPacket {
+            cell,
+            member: InstanceNumber::new(member),
+        };
+        self.queue.push_back(raised)?;
         out.note(StrongNote::Queued { number, member })?;
-        let member = InstanceNumber::new(member);
-        self.queue.push_back(QueuedPacket { cell, member })?;
         self.serve(out)
     }
 
@@ -203,15 +216,29 @@ impl StrongCtrl {
     {
         for member in 0..self.members {
             if member != one {
-                let mut chunks = Chunks::open(self.alloc);
-                chunks.push(chunk.copy()?)?;
-                let home = member == 0;
-                let op = THE_SHARE;
-                let message = Msg::Sync { home, op, chunks };
-                out.send(instance_node(member), message)?;
+                self.sync(member, chunk, out)?;
             }
         }
         Ok(())
+    }
+
+    /// Sends a chunk to a member.
+    fn sync(
+        &self,
+        member: u8,
+        chunk: &Chunk,
+        out: &mut Outbox<Msg, StrongNote>,
+    ) -> Result<(), NoMemory>
+        requires { member < MOST_INSTANCES }
+        ensures { OnOk result (out.new ≡ (out.old.0 ++ sync_to chunk.now member ∷ [], out.old.1)) }
+    {
+        let copy = chunk.copy()?;
+        let mut chunks = Chunks::open(self.alloc);
+        chunks.push(copy)?;
+        let home = member == 0;
+        let op = THE_SHARE;
+        let message = Msg::Sync { home, op, chunks };
+        out.send(instance_node(member), message)
     }
 
     /// A member has taken the record. Where all have, the next packet is served.
@@ -250,9 +277,12 @@ impl StrongCtrl {
         ensures sends { OnOk result (out.new.0 ≡ out.old.0 ++ (row_of_switch self.old message).sends) }
         ensures notes { OnOk result (out.new.1 ≡ out.old.1 ++ (row_of_switch self.old message).notes) }
     {
-        let Msg::End = message else {
-            return Ok(());
-        };
-        out.send(SWITCH, Msg::Finish)
+        match message {
+            Msg::End => out.send(SWITCH, Msg::Finish),
+            _ => {
+                drop(message);
+                Ok(())
+            }
+        }
     }
 }

@@ -1,5 +1,5 @@
 //! The report of strong sharing.
-ghost use Rattle.std.specs.Prelude.{◌≡◌, ◌++◌, IfOk, OnOk, filter_map};
+ghost use Rattle.std.specs.Prelude.{◌≡◌, ◌++◌, IfOk, OnOk, filter_map, length};
 ghost use Rattle.report_lines.specs.Seen.{processed_in, texts_seen};
 ghost use Rattle.strong_share.specs.Report.{event_lines, head_lines, member_lines, named_members, packet_lines, strong_text};
 ghost use Rattle.strong_share.specs.Words.{entries, inner_notes};
@@ -18,7 +18,7 @@ use report_lines::{
 use std::alloc::Global;
 
 /// What the report repeats: the function, the members' names, the window, and how the capture was read.
-#[derive(Debug, Drop)]
+#[derive(Drop)]
 pub struct StrongHead {
     pub kind: Kind,
     /// The members' names in order; member i is the one at place i.
@@ -34,7 +34,6 @@ pub struct StrongHead {
 }
 
 /// The report of a world.
-#[tactic(auto, unfolding(crate::specs::Report::strong_text))]
 pub fn report_strong<F: Function>(
     alloc: Global,
     head: &StrongHead,
@@ -42,13 +41,25 @@ pub fn report_strong<F: Function>(
 ) -> Result<Text, NoMemory>
     ensures { IfOk result (λ text. text ≡ strong_text F.semantics head.now world.now) }
 {
-    let names = head.names.as_slice();
-    let members = named_members(alloc, names, world.nodes())?;
     let mut text = Text::open(alloc);
-    head.push_lines(&mut text)?;
-    push_log::<F>(alloc, &mut text, names, world.log())?;
-    push_members(alloc, &mut text, names.len(), &members)?;
+    push_report(alloc, &mut text, head, world)?;
     Ok(text)
+}
+
+/// Puts the report of a world after a text.
+#[tactic(auto, unfolding(crate::specs::Report::strong_text))]
+fn push_report<F: Function>(
+    alloc: Global,
+    text: &mut Text,
+    head: &StrongHead,
+    world: &World<StrongNode<F>>,
+) -> Result<(), NoMemory>
+    ensures { OnOk result (text.new ≡ text.old ++ strong_text F.semantics head.now world.now) }
+{
+    let names = head.names.as_slice();
+    head.push_lines(text)?;
+    push_log::<F>(alloc, text, names, world.log())?;
+    push_members(alloc, text, names, world.nodes())
 }
 
 impl StrongHead {
@@ -137,9 +148,22 @@ fn entries(alloc: Global, log: &[StrongNote]) -> Result<Vec<(u32, u8)>, NoMemory
     Ok(queued)
 }
 
+/// Puts the lines of the members among the nodes after a text.
+fn push_members<F: Function>(
+    alloc: Global,
+    text: &mut Text,
+    names: &[Name],
+    nodes: &[StrongNode<F>],
+) -> Result<(), NoMemory>
+    ensures { OnOk result (text.new ≡ text.old ++ member_lines F.semantics (length names.now) (named_members names.now nodes.now)) }
+{
+    let members = named_members(alloc, names, nodes)?;
+    push_named_members(alloc, text, names.len(), &members)
+}
+
 /// Puts the lines of the members' records, and of their tallies, after a text.
 #[tactic(auto, unfolding(crate::specs::Report::member_lines))]
-fn push_members<F: Function>(
+fn push_named_members<F: Function>(
     alloc: Global,
     text: &mut Text,
     count: usize,

@@ -1,6 +1,7 @@
-ghost use Rattle.std.specs.Prelude.{◌≡◌, ◌<◌, ◌≤◌, [], IfOk};
+//! The start of strong sharing: its world, its nodes and its input.
+ghost use Rattle.std.specs.Prelude.{◌≡◌, ◌<◌, ◌≤◌, [], ◌++◌, IfOk, OnOk};
 ghost use Rattle.nf_msgs.specs.declared.nodes.TheConstants.{MOST_INSTANCES as MOST};
-ghost use Rattle.strong_share.specs.Start.{IsStrongJob, first_nodes, input_of, job_of, member_at_start, strong_start};
+ghost use Rattle.strong_share.specs.Start.{IsStrongJob, first_members, first_nodes, input_of, job_of, member_at_start, strong_start};
 
 use crate::controller::{StrongCtrl, THE_SHARE};
 use crate::member::Member;
@@ -51,14 +52,28 @@ fn first_nodes<F: Function>(
 {
     let switch = StrongSwitch::open(alloc, window, members, filter, site);
     let controller = StrongCtrl::open(alloc, members);
-    let mut nodes = Vec::new(alloc);
-    nodes.push(StrongNode::Switch(switch))?;
-    nodes.push(StrongNode::Ctrl(controller))?;
+    let first = [StrongNode::Switch(switch), StrongNode::Ctrl(controller)];
+    let mut nodes = Vec::from_array(alloc, first)?;
+    push_members(alloc, &mut nodes, members, filter, site)?;
+    Ok(nodes)
+}
+
+/// Puts so many members after the nodes, in order.
+fn push_members<F: Function>(
+    alloc: Global,
+    nodes: &mut Vec<StrongNode<F>>,
+    members: u8,
+    filter: Filter,
+    site: Site,
+) -> Result<(), NoMemory>
+    requires { members ≤ MOST }
+    ensures { OnOk result (nodes.new.items ≡ nodes.old.items ++ first_members alloc (job_of site 1 members filter []) members) }
+{
     for index in 0..members {
         let member = first_member(alloc, index, filter, site)?;
         nodes.push(StrongNode::Instance(member))?;
     }
-    Ok(nodes)
+    Ok(())
 }
 
 /// A member: an instance without records, which raises the filter's packets.
@@ -72,8 +87,13 @@ fn first_member<F: Function>(
     ensures { IfOk result (λ member. member ≡ member_at_start alloc filter site index) }
 {
     let mut member = Instance::open(alloc, index, MEMBER_LIMIT, false, site);
-    member.enable(THE_SHARE, filter, Action::Drop)?;
-    Ok(Member::of(member))
+    match member.enable(THE_SHARE, filter, Action::Drop) {
+        Ok(()) => Ok(Member::of(member)),
+        Err(error) => {
+            drop(member);
+            Err(error)
+        }
+    }
 }
 
 /// The input: all packets, and then the end.

@@ -1,13 +1,13 @@
 //! The switch of strong sharing: it gives the filter's packets to the members in turn, and all others to the first.
-ghost use Rattle.std.specs.Prelude.{◌≡◌, ◌≤◌, ◌<◌, ◌++◌, OnOk};
+ghost use Rattle.std.specs.Prelude.{◌≡◌, ◌≤◌, ◌<◌, ◌++◌, true, OnOk};
 ghost use Rattle.nf_msgs.specs.declared.nodes.TheConstants.{MOST_INSTANCES as MOST};
 ghost use Rattle.switch_node.specs.Switch.{stop_messages};
-ghost use Rattle.packet_window.specs.Window.{window_at_start};
+ghost use Rattle.packet_window.specs.Window.{has_room, window_at_start};
 ghost use Rattle.strong_share.specs.Tables.{has_closed, member_for, on_packet, switch_step, takes_in};
 
 use crate::note::StrongNote;
 use actor_net::Outbox;
-use basics::NoMemory;
+use basics::{Boxed, NoMemory};
 use event_filter::Mark;
 use flow_filter::{CapturedPacket, Filter, Packet, Site, flow_of};
 use nf_msgs::{CONTROLLER, MOST_INSTANCES, Msg, Note, instance_node};
@@ -87,11 +87,14 @@ impl StrongSwitch {
                 self.window.take_home(cell);
                 Ok(())
             }
-            _ => Ok(()),
+            _ => {
+                drop(message);
+                Ok(())
+            }
         }
     }
 
-    /// Puts a packet into a cell and sends it to its member.
+    /// Lets a packet in, where there is room.
     fn let_in(
         &mut self,
         captured: CapturedPacket,
@@ -105,10 +108,24 @@ impl StrongSwitch {
             return Ok(());
         }
         let packet = self.window.boxed(captured)?;
-        let member = self.member_for(packet.get());
+        self.carry(packet, out)
+    }
+
+    /// Puts a packet into a cell and sends it to its member.
+    fn carry(
+        &mut self,
+        packet: Boxed<Packet>,
+        out: &mut Outbox<Msg, StrongNote>,
+    ) -> Result<(), NoMemory>
+        requires { has_room self.old.window ≡ true }
+        ensures node { OnOk result (self.new ≡ (on_packet self.old packet).node) }
+        ensures sends { OnOk result (out.new.0 ≡ out.old.0 ++ (on_packet self.old packet).sends) }
+        ensures notes { OnOk result (out.new.1 ≡ out.old.1 ++ (on_packet self.old packet).notes) }
+    {
         let number = packet.get().number;
-        let parcel = self.window.let_in(packet);
         out.note(StrongNote::Inner(Note::Arrived(number)))?;
+        let member = self.member_for(packet.get());
+        let parcel = self.window.let_in(packet);
         let message = Msg::Carry {
             mark: Mark::Plain,
             parcel,

@@ -1,17 +1,10 @@
 -- What each step notes of arrivals, and where the input and its end are.
-use Rattle.std.proofs.Common.{◌≡◌, ℕ, Bool, true, false, List, [], ◌∷◌, ◌++◌, refl, sym, ap, ◌∙◌, append-nil}
-use Rattle.std.specs.Prelude.{if◌then◌else◌, ◌==◌}
-use Rattle.two_machine.proofs.Machine.{Free, Target, To_a, To_both, To_b}
-use Rattle.two_machine.proofs.Tables
-use Rattle.two_machine.proofs.Tables.{System, Msg, Switch, Ctrl, Inst, In_packet, In_start, In_end, Start, End, Copied, Laid, Forward, Lay, Finish, Carry}
-use Rattle.two_machine.proofs.Tables.{Stop, Fence, Credit, goes, switch_step, processed, all_processed, inst_step, ctrl_step, takes_in, Step}
-use Rattle.two_machine.proofs.View.{World, Observer, read, read-append, arrived, item}
-use Rattle.two_machine.proofs.Places.{Place, Cs, In, Sc, Aw, Bw, Ac, Bc, Sa, Ca, Sb, Cb, choice, with_waits, comes}
-use Rattle.two_machine.proofs.Labels.{IsSelected, OnBack, Label}
+use Rattle.two_machine.proofs.Words.{◌≡◌, ℕ, Bool, true, false, List, [], ◌∷◌, ◌++◌, refl, sym, ap, ◌∙◌, append-nil, if◌then◌else◌, ◌==◌, Free, Target, To_a}
+use Rattle.two_machine.proofs.Words.{To_both, To_b, System, Msg, Switch, Ctrl, Inst, In_packet, In_start, In_end, Start, End, Copied, Laid, Forward, Lay}
+use Rattle.two_machine.proofs.Words.{Finish, Carry, Stop, Fence, Credit, goes, switch_step, processed, all_processed, inst_step, ctrl_step, takes_in, Step}
+use Rattle.two_machine.proofs.Words.{World, Observer, read, read-append, arrived, item, Place, Cs, In, Sc, Aw, Bw, Ac, Bc, Sa, Ca, Sb, Cb, choice, with_waits}
+use Rattle.two_machine.proofs.Words.{comes, IsSelected, OnBack, Label, sent, result, copied, Each, each-append}
 use Rattle.two_machine.proofs.Rows.{Carried, Runs, carried, kind}
-use Rattle.two_machine.proofs.Puts.{sent, result}
-use Rattle.two_machine.proofs.Shapes.{copied}
-use Rattle.actor_net.proofs.WeightLaws.{Each, each-append}
 use Rattle.two_machine.proofs.StepLabels.{ctrl_ok, ended_by, gives}
 
 -- the packets of an input
@@ -72,10 +65,6 @@ module _ {U T C R O : Type 0} (S : System U T C R O) where
   goes_notes To_a s p = refl
   goes_notes t s p = refl
 
-  lay_notes : (high : Bool) → read (arrived {O = O}) ((if high then Tables.High else Tables.Low) ∷ []) ≡ []
-  lay_notes true = refl
-  lay_notes false = refl
-
   in_notes : (s : Switch) (m : Msg C) → Label S In m → takes_in S s m ≡ true → read arrived (switch_step S s m).notes ≡ comes In m
   in_notes s (In_packet p) h ready = rw ready (goes_notes (if S.covers p then s.target else To_a) s p)
   in_notes s In_start h ready = refl
@@ -114,8 +103,6 @@ module _ {U T C R O : Type 0} (S : System U T C R O) where
       → read arrived (result S pl (with_waits S pl rest v) m).log ≡ read arrived v.log ++ comes pl m
   arrivals In v m rest h ready k = read-append arrived v.log (switch_step S v.sw m).notes ∙ ap (λ xs. read arrived v.log ++ xs) (in_notes v.sw m h ready)
   arrivals Cs v m rest h ready k = read-append arrived v.log (switch_step S v.sw m).notes ∙ ap (λ xs. read arrived v.log ++ xs) (cs_notes v.sw m h)
-  arrivals Aw v m rest h ready k = read-append arrived v.log (switch_step S v.sw m).notes ∙ ap (λ xs. read arrived v.log ++ xs) (back_notes v.sw m h)
-  arrivals Bw v m rest h ready k = read-append arrived v.log (switch_step S v.sw m).notes ∙ ap (λ xs. read arrived v.log ++ xs) (back_notes v.sw m h)
   arrivals Sc v m rest h ready k =
       read-append arrived v.log (ctrl_step S v.ct 0 m).notes ∙ ap (λ xs. read arrived v.log ++ xs) (ctrl_ok S v.ct 0 m k (gives S Sc m h)).quiet
   arrivals Ac v m rest h ready k =
@@ -126,12 +113,12 @@ module _ {U T C R O : Type 0} (S : System U T C R O) where
   arrivals Ca v m rest h ready k = read-append arrived v.log (inst_step S 0 v.a m).notes ∙ ap (λ xs. read arrived v.log ++ xs) (inst_notes 0 v.a m)
   arrivals Sb v m rest h ready k = read-append arrived v.log (inst_step S 1 v.b m).notes ∙ ap (λ xs. read arrived v.log ++ xs) (inst_notes 1 v.b m)
   arrivals Cb v m rest h ready k = read-append arrived v.log (inst_step S 1 v.b m).notes ∙ ap (λ xs. read arrived v.log ++ xs) (inst_notes 1 v.b m)
+  arrivals x v m rest h ready k = read-append arrived v.log (switch_step S v.sw m).notes ∙ ap (λ xs. read arrived v.log ++ xs) (back_notes v.sw m h)
 
   -- the end
   goes_sc : (t : Target) (s : Switch) (p : ℕ) → Each NotEnd (sent 1 (goes S t s p).sends)
-  goes_sc To_a s p = tt
   goes_sc To_both s p = (tt, tt)
-  goes_sc To_b s p = tt
+  goes_sc x s p = tt
 
   end_in : (v : World T C O) (m : Msg C) (rest : List (Msg C)) → Label S In m → takes_in S v.sw m ≡ true → EndAt (with_waits S In (m ∷ rest) v)
       → EndAt (result S In (with_waits S In rest v) m)

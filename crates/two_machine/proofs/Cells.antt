@@ -1,19 +1,13 @@
 -- The switch counts the packets under way: those on links, in the store, and held.
-use Rattle.std.proofs.Common.{◌≡◌, ◌≢◌, ℕ, ◌+◌, Bool, true, false, List, [], ◌∷◌, ◌++◌, length, refl, ap, ◌∙◌, arith}
-use Rattle.std.specs.Prelude.{if◌then◌else◌, ◌==◌}
-use Rattle.std.proofs.lemmas.List.{length_push}
-use Rattle.two_machine.proofs.Machine.{Free, Drops, Target, To_a}
-use Rattle.two_machine.proofs.Tables.{System, Msg, Switch, Ctrl, Inst, Step, In_packet, In_start, In_end, Forward, Lay, Finish, Carry, Pass, Stop, Enable}
-use Rattle.two_machine.proofs.Tables.{Get, Delete, Restore, Fence, Event, Fenced, Credit, goes, switch_step, processed, all_processed, inst_step, forwards}
-use Rattle.two_machine.proofs.Tables.{ctrl_row, soon_at, finishes, ctrl_step, takes_in}
-use Rattle.two_machine.proofs.View.{World, read-append}
-use Rattle.two_machine.proofs.Places.{Place, Ac, Bc, Ca, Cb, Cs, In, Sa, Sb, Sc, Aw, Bw, with_waits}
-use Rattle.two_machine.proofs.Labels.{OnBack, Label}
+use Rattle.two_machine.proofs.Words.{◌≡◌, ◌≢◌, ℕ, ◌+◌, Bool, true, false, List, [], ◌∷◌, ◌++◌, length, refl, ap, ◌∙◌, arith, if◌then◌else◌, ◌==◌, length_push}
+use Rattle.two_machine.proofs.Words.{Free, Drops, Target, To_a, System, Msg, Switch, Ctrl, Inst, Step, In_packet, In_start, In_end, Forward, Lay, Finish}
+use Rattle.two_machine.proofs.Words.{Carry, Pass, Stop, Enable, Get, Delete, Restore, Fence, Event, Fenced, Credit, goes, switch_step, processed}
+use Rattle.two_machine.proofs.Words.{all_processed, inst_step, forwards, ctrl_row, soon_at, finishes, ctrl_step, takes_in, World, read-append, Place, Ac, Bc}
+use Rattle.two_machine.proofs.Words.{Ca, Cb, Cs, In, Sa, Sb, Sc, Aw, Bw, with_waits, OnBack, Label, to_one, sent, put_switch, put_ctrl, put_a, put_b, result}
+use Rattle.two_machine.proofs.Words.{weigh, weigh-append}
 use Rattle.two_machine.proofs.Rows.{Kind, Cell, kind, Row, Lays_low, Stores, Finishes, Not_yet, Asks, row, soon_row, finish_row, Carried, Runs, Hands_out}
 use Rattle.two_machine.proofs.Rows.{Held, carried}
-use Rattle.two_machine.proofs.Puts.{to_one, sent, put_switch, put_ctrl, put_a, put_b, result}
 use Rattle.two_machine.proofs.Arrivals.{Ready}
-use Rattle.actor_net.proofs.WeightLaws.{weigh, weigh-append}
 
 -- whether a message carries a cell
 abbrev pub cell : {C : Type 0} → Msg C → ℕ
@@ -190,7 +184,6 @@ module _ {U T C R O : Type 0} (S : System U T C R O) where
   ac_cells (Pass p) l = absurd l
   ac_cells (Forward p) l = absurd l
   ac_cells (Credit p) l = absurd l
-  ac_cells (Event p) l = refl
   ac_cells m l = refl
 
   bc_cells : (m : Msg C) → Label S Bc m → cell_in (kind 3 m) ≡ 0

@@ -1,8 +1,5 @@
 -- How a run is closed: one message at a time from the controller to the switch, to an instance, and back, first of A and then of B.
-use Rattle.std.proofs.Common.{◌≡◌, ℕ, Bool, true, false, List, [], ◌∷◌}
-use Rattle.std.specs.Prelude.{◌&&◌}
-use Rattle.two_machine.proofs.Tables.{System, Msg, Ctrl, Finish, Stop, Final, is_over}
-use Rattle.two_machine.proofs.View.{World, read}
+use Rattle.two_machine.proofs.Words.{◌≡◌, ℕ, Bool, true, false, List, [], ◌∷◌, ◌&&◌, System, Msg, Ctrl, Finish, Stop, Final, is_over, World, read}
 
 -- how far the closing is
 pub data Close : Type 0 where

@@ -1,13 +1,9 @@
 -- What the controller does of the closing in each step: it asks once for the finish of A, as soon as the update is over and the input ended.
-use Rattle.std.proofs.Common.{◌≡◌, ℕ, true, false, List, [], ◌∷◌, ◌++◌, refl, sym, ap, ◌∙◌}
-use Rattle.std.specs.Prelude.{if◌then◌else◌}
-use Rattle.std.proofs.lemmas.Bool.{and_parts, false≢true}
-use Rattle.two_machine.proofs.Machine.{Phase, Idle, Freezing, Getting, Deleting, Putting, Holding, Laying, Waiting, Turning, Settling, Ending, Over}
-use Rattle.two_machine.proofs.Tables.{System, Msg, Ctrl, Step, Lay, Final, forwards, ctrl_row, and_then, soon_at, is_over, finishes, soon, ctrl_step, still}
-use Rattle.two_machine.proofs.View.{read, read-append}
+use Rattle.two_machine.proofs.Words.{◌≡◌, ℕ, true, false, List, [], ◌∷◌, ◌++◌, refl, sym, ap, ◌∙◌, if◌then◌else◌, and_parts, false≢true, Phase, Idle, Freezing}
+use Rattle.two_machine.proofs.Words.{Getting, Deleting, Putting, Holding, Laying, Waiting, Turning, Settling, Ending, Over, System, Msg, Ctrl, Step, Lay}
+use Rattle.two_machine.proofs.Words.{Final, forwards, ctrl_row, and_then, soon_at, is_over, finishes, soon, ctrl_step, still, read, read-append, sent, to_one}
 use Rattle.two_machine.proofs.Rows.{Kind, Last, kind, Row, Stays, Freezes, Gets, Deletes, Restores, Holds, Lays_low, Waits, Lays_high, Settles, Fences}
 use Rattle.two_machine.proofs.Rows.{Is_over, None_came, Hears_end, Hears_a, Hears_b, Finishes, Not_yet, Asks, row, soon_row, finish_row}
-use Rattle.two_machine.proofs.Puts.{sent, to_one}
 use Rattle.two_machine.proofs.Closing.{ends, is_at_end}
 
 module _ {U T C R O : Type 0} (S : System U T C R O) where

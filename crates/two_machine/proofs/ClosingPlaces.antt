@@ -1,15 +1,10 @@
 -- Each message that is taken keeps the closing, at each place.
-use Rattle.std.proofs.Common.{◌≡◌, ℕ, Bool, true, false, List, [], ◌∷◌, ◌++◌, refl, ap, append-nil}
-use Rattle.std.specs.Prelude.{if◌then◌else◌, ◌==◌}
-use Rattle.two_machine.proofs.Machine.{Free, Target, To_a, To_both, To_b}
-use Rattle.two_machine.proofs.Tables.{System, Msg, Ctrl, Inst, In_packet, In_start, In_end, Start, End, Copied, Laid, Forward, Lay, Finish, Step, Carry, Pass}
-use Rattle.two_machine.proofs.Tables.{Stop, Enable, Get, Delete, Restore, Fence, Enabled, Chunks, Deleted, Restored, Event, Seen, Fenced, Final, Credit}
-use Rattle.two_machine.proofs.Tables.{has_room, goes, processed, all_processed, still, says, and_then, soon, ctrl_step}
-use Rattle.two_machine.proofs.View.{World, read, read-append}
-use Rattle.two_machine.proofs.Labels.{Label}
+use Rattle.two_machine.proofs.Words.{◌≡◌, ℕ, Bool, true, false, List, [], ◌∷◌, ◌++◌, refl, ap, append-nil, if◌then◌else◌, ◌==◌, Free, Target, To_a, To_both}
+use Rattle.two_machine.proofs.Words.{To_b, System, Msg, Ctrl, Inst, In_packet, In_start, In_end, Start, End, Copied, Laid, Forward, Lay, Finish, Step, Carry}
+use Rattle.two_machine.proofs.Words.{Pass, Stop, Enable, Get, Delete, Restore, Fence, Enabled, Chunks, Deleted, Restored, Event, Seen, Fenced, Final, Credit}
+use Rattle.two_machine.proofs.Words.{has_room, goes, processed, all_processed, still, says, and_then, soon, ctrl_step, World, read, read-append, Label, sent}
+use Rattle.two_machine.proofs.Words.{put_switch, put_ctrl, put_a, put_b, put_twice, result, Place, In, Cs, Aw, Bw, Sc, Ac, Bc, Sa, Ca, Sb, Cb, with_waits}
 use Rattle.two_machine.proofs.Rows.{Carried, Runs, Hands_out, Held, carried}
-use Rattle.two_machine.proofs.Puts.{sent, put_switch, put_ctrl, put_a, put_b, put_twice, result}
-use Rattle.two_machine.proofs.Places.{Place, In, Cs, Aw, Bw, Sc, Ac, Bc, Sa, Ca, Sb, Cb, with_waits}
 use Rattle.two_machine.proofs.Closing.{ends, seen_signs, Closing}
 use Rattle.two_machine.proofs.ClosingController.{NotFinal, step_ok, soon_ok}
 use Rattle.two_machine.proofs.ClosingSteps.{finishes_at, stops_a, stops_b, hears_a, hears_b, at_finish, at_stop_a, at_stop_b, at_final_a, at_final_b}
@@ -22,14 +17,11 @@ module _ {U T C R O : Type 0} (S : System U T C R O) where
   in_signs : (v : World T C O) (p : ℕ) (b : Bool) (t : Target)
       → seen_signs S (put_switch S v (if b then goes S t v.sw p else still S v.sw)) ≡ seen_signs S v
   in_signs v p true To_a = simp reads
-  in_signs v p true To_both = simp reads
-  in_signs v p true To_b = simp reads
-  in_signs v p false t = simp reads
+  in_signs v p x t = simp reads
 
   a_signs : (v : World T C O) {p : ℕ} {did : Step S (Inst T)} → Carried S 0 v.a p did → seen_signs S (put_a S v did) ≡ seen_signs S v
   a_signs v (Runs free) = simp reads
-  a_signs v (Hands_out drops covers) = simp reads
-  a_signs v (Held covers) = simp reads
+  a_signs v x = simp reads
 
   b_signs : (v : World T C O) {p : ℕ} {did : Step S (Inst T)} → Carried S 1 v.b p did → seen_signs S (put_b S v did) ≡ seen_signs S v
   b_signs v (Held covers) = simp reads

@@ -1,10 +1,7 @@
 -- What each message of the closing leads to, and what a step of the controller leaves of it.
-use Rattle.std.proofs.Common.{◌≡◌, ℕ, Bool, true, false, List, [], ◌∷◌, ◌++◌, refl, sym, ap, ◌∙◌, drop}
-use Rattle.std.specs.Prelude.{if◌then◌else◌, ◌==◌}
-use Rattle.std.proofs.lemmas.Bool.{false≢true}
-use Rattle.two_machine.proofs.Tables.{System, Ctrl, Step}
-use Rattle.two_machine.proofs.View.{World, read, read-append}
-use Rattle.two_machine.proofs.Puts.{sent, put_ctrl}
+use Rattle.two_machine.proofs.Words.{◌≡◌, ℕ, Bool, true, false, List, [], ◌∷◌, ◌++◌, refl, sym, ap, ◌∙◌, if◌then◌else◌, ◌==◌, false≢true, System, Ctrl, Step}
+use Rattle.two_machine.proofs.Words.{World, read, read-append, sent, put_ctrl}
+use Rattle.std.proofs.Common.{drop}
 use Rattle.two_machine.proofs.Closing.{Close, Unsent, Finish_a, Stop_a, Final_a, Finish_b, Stop_b, Final_b, Closed, Signs, signs, ends, is_at_end, seen_signs}
 use Rattle.two_machine.proofs.Closing.{Closing}
 use Rattle.two_machine.proofs.ClosingController.{StepOk}

@@ -1,14 +1,11 @@
 -- In a complete run all was processed, each record stands at one instance alone, and the verdict is true.
-use Rattle.std.proofs.Common.{◌≡◌, ℕ, Bool, true, false, Option, None, List, [], ◌∷◌, ◌++◌, refl, sym, ap, subst, ◌∙◌, append-nil, arith, ◌⊎◌, inl, inr}
-use Rattle.std.specs.Prelude.{if◌then◌else◌}
-use Rattle.std.proofs.lemmas.Bool.{and_parts, false≢true}
-use Rattle.actor_net.specs.declared.choice.Choice.{Choice}
-use Rattle.actor_net.specs.Network.{Network, run, IsRun, is_done}
-use Rattle.two_machine.proofs.Machine.{Over, Scan, Is_done, Is_none, No_low, after, Frame, State}
-use Rattle.two_machine.proofs.Stages.{Stage, No_packet_came, High_comes, Is_over, Not_begun, Before, Storing, Passing, Turned, Ends, done, path, Fits, Rises}
+use Rattle.two_machine.proofs.Words.{◌≡◌, ℕ, Bool, true, false, Option, None, List, [], ◌∷◌, ◌++◌, refl, sym, ap, subst, ◌∙◌, append-nil, arith, ◌⊎◌, inl, inr}
+use Rattle.two_machine.proofs.Words.{if◌then◌else◌, and_parts, false≢true, Choice, Network, run, IsRun, is_done, Over, Scan, Is_done, Is_none, No_low, after}
+use Rattle.two_machine.proofs.Words.{Frame, State, Stage, No_packet_came, High_comes, Is_over, Not_begun, Before, Storing, Passing, Turned, Ends, done, path}
+use Rattle.two_machine.proofs.Words.{Fits, Rises, System, Laws, Msg, Note, Node, Is_switch, Done, No_packet, is_over, node_step, node_ready, node_ended, World}
+use Rattle.two_machine.proofs.Words.{net, read, those, carries, arrived, ran, scans, Observer, Nobody, Of_unit, IsTaken, frame, view, Place, In, Cs, Ac, Sa}
+use Rattle.two_machine.proofs.Words.{Sb, choice, waits, waiting_at, done_is, shape}
 use Rattle.two_machine.proofs.Stages as stages
-use Rattle.two_machine.proofs.Tables.{System, Laws, Msg, Note, Node, Is_switch, Done, No_packet, is_over, node_step, node_ready, node_ended}
-use Rattle.two_machine.proofs.View.{World, net, read, those, carries, arrived, ran, scans, Observer, Nobody, Of_unit, IsTaken, frame, view}
 use Rattle.two_machine.proofs.Arrivals.{coming}
 use Rattle.two_machine.proofs.Runs.{Holds, Reached}
 use Rattle.two_machine.proofs.Outputs.{mine, record_by, by_log}
@@ -17,9 +14,7 @@ use Rattle.two_machine.proofs.Promises.{listed, processed, has_come, after_low, 
 use Rattle.two_machine.proofs.Scans.{came_by, verdicts_by, is_wrong, scan_right, from_start, the_verdict}
 use Rattle.two_machine.proofs.EveryRun.{own_those, fold_is, WithRight, WithStays, taken_run, untaken_run}
 use Rattle.two_machine.proofs.RunLengths.{Counted, nobody_run}
-use Rattle.two_machine.proofs.Places.{Place, In, Cs, Ac, Sa, Sb, choice, waits, waiting_at}
 use Rattle.actor_net.proofs.CompleteWorlds.{done_waiting, done_node}
-use Rattle.two_machine.proofs.Shapes.{done_is, shape}
 use Rattle.two_machine.proofs.ClosingController.{over_is}
 
 module _ {U T C R O : Type 0} (S : System U T C R O) where

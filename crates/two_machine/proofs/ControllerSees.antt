@@ -1,16 +1,14 @@
 -- What is seen of a step of the controller is the machine's.
-use Rattle.std.proofs.Common.{◌≡◌, ℕ, Bool, true, false, Option, Some, None, List, [], ◌∷◌, ◌++◌, refl, ap, ◌∙◌, append_assoc, append-nil}
-use Rattle.std.specs.Prelude.{if◌then◌else◌}
+use Rattle.two_machine.proofs.Words.{◌≡◌, ℕ, Bool, true, false, Option, Some, None, List, [], ◌∷◌, ◌++◌, refl, ap, ◌∙◌, append_assoc, append-nil}
+use Rattle.two_machine.proofs.Words.{if◌then◌else◌, Phase, Idle, Freezing, Getting, Deleting, Putting, Holding, Laying, Waiting, Turning, Settling, Ending}
+use Rattle.two_machine.proofs.Words.{Over, State, same, System, Laws, Msg, Ctrl, Step, End, Seen, Finish, forwards, none, on_start, on_enabled, on_chunks}
+use Rattle.two_machine.proofs.Words.{on_deleted, on_restored, on_event, on_laid, on_copied, on_fenced, ctrl_row, soon_at, finishes, soon, ctrl_step, World}
+use Rattle.two_machine.proofs.Words.{Observer, Nobody, Of_unit, read, read-append, those-append, frame, inside, item, scans-append, view, sent, put_ctrl}
+use Rattle.two_machine.proofs.Words.{put_twice}
 use Rattle.two_machine.proofs.Machine as m
-use Rattle.two_machine.proofs.Machine.{Phase, Idle, Freezing, Getting, Deleting, Putting, Holding, Laying, Waiting, Turning, Settling, Ending, Over, State}
-use Rattle.two_machine.proofs.Machine.{same}
 use Rattle.two_machine.proofs.Tables
-use Rattle.two_machine.proofs.Tables.{System, Laws, Msg, Ctrl, Step, End, Seen, Finish, forwards, none, on_start, on_enabled, on_chunks, on_deleted}
-use Rattle.two_machine.proofs.Tables.{on_restored, on_event, on_laid, on_copied, on_fenced, ctrl_row, soon_at, finishes, soon, ctrl_step}
-use Rattle.two_machine.proofs.View.{World, Observer, Nobody, Of_unit, read, read-append, those-append, forwarded, seen, frame, inside, item, scans-append}
-use Rattle.two_machine.proofs.View.{view}
+use Rattle.two_machine.proofs.View.{forwarded, seen}
 use Rattle.two_machine.proofs.Rows.{Finishes, Not_yet, Asks, finish_row}
-use Rattle.two_machine.proofs.Puts.{sent, put_ctrl, put_twice}
 
 pub ruleset reads = (read-append, those-append, scans-append, append_assoc, append-nil)
 
@@ -96,7 +94,6 @@ module _ {U T C R O : Type 0} (S : System U T C R O) (laws : Laws S) (o : Observ
   start_seen v ph = simp reads
 
   pub enabled_seen : (v : World T C O) (ph : Phase) → view S o (put_ctrl S v (on_enabled S ph v.ct)) ≡ m.enabled_at (frame S o) ph (view S o v)
-  enabled_seen v Freezing = simp reads
   enabled_seen v Holding = simp more
   enabled_seen v ph = simp reads
 
@@ -124,7 +121,6 @@ module _ {U T C R O : Type 0} (S : System U T C R O) (laws : Laws S) (o : Observ
 
   pub copied_seen : (v : World T C O) (ph : Phase) (p : ℕ) → view S o (put_ctrl S v (on_copied S ph v.ct p)) ≡ m.copied_at (frame S o) ph (view S o v) p
   copied_seen v Waiting p = simp reads
-  copied_seen v Turning p = simp reads
   copied_seen v ph p = simp reads
 
   pub fenced_seen : (v : World T C O) (ph : Phase) → view S o (put_ctrl S v (on_fenced S ph v.ct)) ≡ m.fenced_at (frame S o) ph (view S o v)

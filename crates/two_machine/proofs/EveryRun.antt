@@ -1,16 +1,8 @@
 -- Order, each packet at most once, true outputs, Low before High, for every run.
-use Rattle.std.proofs.Common.{◌≡◌, ◌≤◌, ℕ, ◌+◌, length, Bool, true, false, Option, Some, None, List, [], ◌∷◌, ◌++◌, refl, sym, ap, subst, ◌∙◌, append_assoc}
-use Rattle.std.proofs.Common.{arith}
-use Rattle.std.specs.Prelude.{if◌then◌else◌, ◌==◌}
-use Rattle.std.proofs.lemmas.Bool.{false≢true}
-use Rattle.std.proofs.lemmas.Bool.Decides.{nat_tests, Decides-eqb}
-use Rattle.actor_net.specs.declared.choice.Choice.{Choice}
-use Rattle.actor_net.specs.Network.{Network, run, IsRun}
-use Rattle.two_machine.proofs.Machine.{folded}
-use Rattle.two_machine.proofs.Stages.{done, path, Rises}
-use Rattle.two_machine.proofs.Tables.{System, Laws, Msg, Note, Node, node_step, node_ready}
-use Rattle.two_machine.proofs.View.{read, those, those-append, carries, arrived, ran, Nobody, Of_unit, frame}
-use Rattle.two_machine.proofs.Places.{with_waits}
+use Rattle.two_machine.proofs.Words.{◌≡◌, ◌≤◌, ℕ, ◌+◌, length, Bool, true, false, Option, Some, None, List, [], ◌∷◌, ◌++◌, refl, sym, ap, subst, ◌∙◌}
+use Rattle.two_machine.proofs.Words.{append_assoc, arith, if◌then◌else◌, ◌==◌, false≢true, nat_tests, Decides-eqb, Choice, Network, run, IsRun, folded, done}
+use Rattle.two_machine.proofs.Words.{path, Rises, System, Laws, Msg, Note, Node, node_step, node_ready, read, those, those-append, carries, arrived, ran}
+use Rattle.two_machine.proofs.Words.{Nobody, Of_unit, frame, with_waits, done_is}
 use Rattle.two_machine.proofs.Arrivals.{coming}
 use Rattle.two_machine.proofs.Runs.{Reached, known}
 use Rattle.two_machine.proofs.Outputs.{mine, its_frame, due, IsRight, right_keeps, cover_mine}
@@ -18,7 +10,6 @@ use Rattle.two_machine.proofs.Untaken.{Stays, stays_keeps}
 use Rattle.two_machine.proofs.RunLengths.{nobody_run}
 use Rattle.two_machine.proofs.Promises.{times, IsFront, processed, of_unit, fold, outputs, given, start, LeadsTo, Every}
 use Rattle.two_machine.proofs.Scans.{scan_right, low_before_high, is_wrong}
-use Rattle.two_machine.proofs.Shapes.{done_is}
 use Rattle.two_machine.proofs.TakenMessages.{labels_less, kept_there}
 use Rattle.two_machine.proofs.Starts.{every_run}
 

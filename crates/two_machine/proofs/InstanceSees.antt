@@ -1,16 +1,13 @@
 -- What is seen of a step of an instance or of the switch is the machine's.
-use Rattle.std.proofs.Common.{◌≡◌, ◌≢◌, ℕ, Bool, true, false, Option, Some, None, List, [], ◌∷◌, ◌++◌, refl, sym, ap, ◌∙◌, append_assoc, append-nil}
-use Rattle.std.specs.Prelude.{if◌then◌else◌, ◌==◌, is_some}
-use Rattle.std.proofs.lemmas.Bool.{false≢true}
+use Rattle.two_machine.proofs.Words.{◌≡◌, ◌≢◌, ℕ, Bool, true, false, Option, Some, None, List, [], ◌∷◌, ◌++◌, refl, sym, ap, ◌∙◌, append_assoc, append-nil}
+use Rattle.two_machine.proofs.Words.{if◌then◌else◌, ◌==◌, is_some, false≢true, Rule, Free, Drops, Buffers, Target, To_a, To_both, To_b, State, stepped, folded}
+use Rattle.two_machine.proofs.Words.{System, Laws, Inst, Step, processed, all_processed, ruled, inst_step, goes, switch_step, World, Observer, Nobody, Of_unit}
+use Rattle.two_machine.proofs.Words.{read-append, frame, own, inside, IsTaken, view, IsSelected, put_switch, put_a, put_b, Each}
 use Rattle.two_machine.proofs.Machine as m
-use Rattle.two_machine.proofs.Machine.{Rule, Free, Drops, Buffers, Target, To_a, To_both, To_b, State, stepped, folded}
-use Rattle.two_machine.proofs.Tables.{System, Laws, Inst, Step, processed, all_processed, ruled, on_pass, on_fence, inst_step, goes, switch_step}
+use Rattle.two_machine.proofs.Tables.{on_pass, on_fence}
 use Rattle.two_machine.proofs.Tables as t
-use Rattle.two_machine.proofs.View.{World, Observer, Nobody, Of_unit, read-append, is_of, frame, own, inside, IsTaken, view}
-use Rattle.two_machine.proofs.Labels.{IsSelected}
-use Rattle.two_machine.proofs.Puts.{put_switch, put_a, put_b}
+use Rattle.two_machine.proofs.View.{is_of}
 use Rattle.two_machine.proofs.ControllerSees.{reads}
-use Rattle.actor_net.proofs.WeightLaws.{Each}
 
 module _ {U T C R O : Type 0} (S : System U T C R O) (laws : Laws S) (o : Observer U) (taken : IsTaken S o) where
   -- a packet that the filter doesn't match isn't the observer's
@@ -58,8 +55,7 @@ module _ {U T C R O : Type 0} (S : System U T C R O) (laws : Laws S) (o : Observ
   pub carry_a : (v : World T C O) (p : ℕ) (rule : Rule) → S.covers p ≡ true
       → view S o (put_a S v (ruled S rule 0 v.a p)) ≡ m.carried_a (frame S o) rule (view S o v) p
   carry_a v p Free covers = let owned = own_processed o v.a.table p in simp (reads, owned, covers)
-  carry_a v p Drops covers = simp reads
-  carry_a v p Buffers covers = simp reads
+  carry_a v p x covers = simp reads
 
   -- and another
   pub other_a : (v : World T C O) (p : ℕ) → S.covers p ≡ false → view S o (put_a S v (processed S 0 v.a p)) ≡ view S o v
@@ -142,8 +138,7 @@ module _ {U T C R O : Type 0} (S : System U T C R O) (laws : Laws S) (o : Observ
   pub arrive : (v : World T C O) (p : ℕ) (target : Target) → S.covers p ≡ true
       → view S o (put_switch S v (goes S target v.sw p)) ≡ m.arrives (frame S o) target (view S o v) p
   arrive v p To_a covers = simp (reads, covers)
-  arrive v p To_both covers = simp (reads, covers)
-  arrive v p To_b covers = simp (reads, covers)
+  arrive v p x covers = simp (reads, covers)
 
   pub arrive_other : (v : World T C O) (p : ℕ) → S.covers p ≡ false → view S o (put_switch S v (goes S To_a v.sw p)) ≡ view S o v
   arrive_other v p covers = simp (reads, covers)

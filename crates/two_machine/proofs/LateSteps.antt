@@ -1,16 +1,15 @@
 -- Each step from a stage from the low rule on leads to a stage, in order.
-use Rattle.std.proofs.Common.{◌≡◌, ℕ, Bool, true, false, Option, Some, None, List, [], ◌∷◌, ◌++◌, refl, sym, ap, subst, ◌∙◌, append_assoc, append-nil}
-use Rattle.std.specs.Prelude.{is_some}
-use Rattle.std.proofs.lemmas.Bool.{false≢true}
-use Rattle.two_machine.proofs.Machine.{Laid, Frame, Move, End_comes, Arrive, Take_sa, Take_pass, Take_plain, Take_sc, Take_forward, Take_cs, Take_cb}
-use Rattle.two_machine.proofs.Machine.{Take_event, Take_seen, Take_bc, Idles, same, soon}
-use Rattle.two_machine.proofs.Stages.{Turn, Low_goes, Low_comes, Waits, High_goes, No_packet_came, Late, High_comes, Settles, Last, Fence_goes, Fenced_comes}
-use Rattle.two_machine.proofs.Stages.{Is_over, Old, old, Copies, Stage, Before, Storing, Passing, Turned, Ends, to_list, waits, since_seen, old_path, done}
-use Rattle.two_machine.proofs.Stages.{path, last_of, Rises, Follows, LastFits, copying, PathFits, fit, Fits}
+use Rattle.two_machine.proofs.Words.{◌≡◌, ℕ, Bool, true, false, Option, Some, None, List, [], ◌∷◌, ◌++◌, refl, sym, ap, subst, ◌∙◌, append_assoc, append-nil}
+use Rattle.two_machine.proofs.Words.{is_some, false≢true, Frame, Move, End_comes, Arrive, Take_sa, Take_pass, Take_plain, Take_sc, Take_forward, Take_cs}
+use Rattle.two_machine.proofs.Words.{Take_cb, Take_event, Take_seen, Take_bc, Idles, same, Low_goes, Low_comes, Waits, No_packet_came, High_comes, Settles}
+use Rattle.two_machine.proofs.Words.{Fence_goes, Is_over, Stage, Before, Storing, Passing, Turned, Ends, to_list, done, path, last_of, Rises, fit, Fits, shape}
+use Rattle.two_machine.proofs.Words.{Allowed, Leads, to, GoesOn}
+use Rattle.two_machine.proofs.Machine.{Laid, soon}
+use Rattle.two_machine.proofs.Stages.{Turn, High_goes, Late, Last, Fenced_comes, Old, old, Copies, waits, since_seen, old_path, Follows, LastFits, copying}
+use Rattle.two_machine.proofs.Stages.{PathFits}
 use Rattle.two_machine.proofs.Laws.{folded-append, copies-append, copied-copies, copied_all, last_put, append_nil_left, append_nil_right, rises_after}
 use Rattle.two_machine.proofs.Laws.{rises_front, only_one, both}
 use Rattle.two_machine.proofs.EarlySteps.{stays, paths, before, storing}
-use Rattle.two_machine.proofs.Shapes.{shape, Allowed, Leads, to, GoesOn}
 
 ruleset shapes = (append_assoc, append-nil, folded-append, copies-append)
 
@@ -94,42 +93,29 @@ module _ {R : Type 0} (f : Frame R) where
       to (Passing High_goes d s z x g e (l ++ p ∷ []) t (c ++ p ∷ []) b)
       (fit (follow_both d s z x g e l t c p h.follows) (λ is. absurd (false≢true (sym a ∙ is))) h.own) (simp shapes) (simp paths)
   passing No_packet_came d s z x g e l t c b h (Arrive p) a = absurd (false≢true (sym a ∙ h.own.1))
-  passing n d s z x g e [] t c b h Take_sa a = stays f (Passing n d s z x g e [] t c b) h
   passing n d s z x g e (p ∷ l) t c b h Take_sa a =
       to (Passing n d s z x g (e ++ p ∷ []) l t c b) (walks (old s z x g (e ++ p ∷ []) l) h refl (simp paths)) refl (simp paths)
-  passing n d s z [] g e l t c b h Take_pass a = stays f (Passing n d s z [] g e l t c b) h
   passing n d s z (p ∷ x) g e l t c b h Take_pass a =
       to (Passing n (d ++ p ∷ []) s (z ++ p ∷ []) x g e l t c b) (refit (follow_pass d s z x g e l (copying t c) p h.follows) h) (simp shapes) (simp paths)
-  passing n d s z x [] e l t c b h Take_forward a = stays f (Passing n d s z x [] e l t c b) h
   passing n d s z x (p ∷ g) e l t c b h Take_forward a =
       to (Passing n d s z (x ++ p ∷ []) g e l t c b) (walks (old s z (x ++ p ∷ []) g e l) h refl (simp paths)) refl (simp paths)
-  passing n d s z x g [] l t c b h Take_event a = stays f (Passing n d s z x g [] l t c b) h
-  passing Low_goes d s z x g (p ∷ e) l t c b h Take_event a =
-      to (Passing Low_goes d s z x (g ++ p ∷ []) e l t c b) (walks (old s z x (g ++ p ∷ []) e l) h refl (simp paths)) refl (simp paths)
   passing n d s z x g (p ∷ e) l t c b h Take_event a =
       to (Passing n d s z x (g ++ p ∷ []) e l t c b) (walks (old s z x (g ++ p ∷ []) e l) h refl (simp paths)) refl (simp paths)
-  passing n d s [] x g e l t c b h Take_seen a = stays f (Passing n d s [] x g e l t c b) h
-  passing Low_goes d s (p ∷ z) x g e l t c b h Take_seen a =
-      to (Passing Low_goes d (Some p) z x g e l t c b) (refit (follow_seen d s z x g e l (copying t c) p h.follows) h) refl (simp paths)
   passing n d s (p ∷ z) x g e l t c b h Take_seen a =
       to (Passing n d (Some p) z x g e l t c b) (refit (follow_seen d s z x g e l (copying t c) p h.follows) h) refl (simp paths)
   passing Low_comes d s z x g e l t [] true h Take_sc a =
       to (Passing No_packet_came d s z x g e l t [] true) (fit h.follows h.none_after (refl, refl)) refl (simp paths)
   passing Low_comes d s z x g e l t (q ∷ c) true h Take_sc a = let none = h.none_after refl in cc
   passing Low_comes d s z x g e l t c false h Take_sc a = to (Passing Waits d s z x g e l t c false) (fit h.follows h.none_after refl) refl (simp paths)
-  passing Waits d s z x g e l t [] false h Take_sc a = stays f (Passing Waits d s z x g e l t [] false) h
   passing Waits d s z x g e l t (p ∷ c) false h Take_sc a =
       to (Passing High_goes d s z x g e l (Some p) c false)
       (fit (follow_copy d (old s z x g e l) t c p h.follows) (λ is. absurd (false≢true is)) refl) refl (simp paths)
-  passing High_goes d s z x g e l t [] b h Take_sc a = stays f (Passing High_goes d s z x g e l t [] b) h
   passing High_goes d s z x g e l t (p ∷ c) b h Take_sc a =
       to (Passing High_goes d s z x g e l (Some p) c b)
       (fit (follow_copy d (old s z x g e l) t c p h.follows) (λ is. let none = h.none_after is in cc) refl) refl (simp paths)
-  passing n d s z x g e l t c b h Take_sc a = stays f (Passing n d s z x g e l t c b) h
   passing Low_goes d s z x g e l t [] b h Take_cs a = to (Passing Low_comes d s z x g e l t [] b) (fit h.follows h.none_after tt) refl (simp paths)
   passing Low_goes d s z x g e l t (q ∷ c) b h Take_cs a = let none = h.own.0 in cc
   passing High_goes d s z x g e l t c b h Take_cs a = to (Turned High_comes d s z x g e l t c [] [] b) (refit h.follows h) refl (simp paths)
-  passing n d s z x g e l t c b h Take_cs a = stays f (Passing n d s z x g e l t c b) h
   passing Low_goes d s z x g e l t c b h End_comes a = to (Passing Low_goes d s z x g e l t c true) (fit h.follows (λ _. h.own.0) h.own) refl (simp paths)
   passing Low_comes d s z x g e l t c b h End_comes a =
       to (Passing Low_comes d s z x g e l t c true) (fit h.follows (λ _. sym (copied_all R c) ∙ a.1) tt) refl (simp paths)
@@ -139,8 +125,6 @@ module _ {R : Type 0} (f : Frame R) where
   passing High_goes d s z x g e l t c b h End_comes a =
       to (Passing High_goes d s z x g e l t c true) (fit h.follows (λ _. sym (copied_all R c) ∙ a.1) h.own) refl (simp paths)
   passing No_packet_came d s z x g e l t c b h End_comes a = absurd (false≢true (sym a.0 ∙ h.own.1))
-  passing Waits d s z x g e l t c false h Idles a = stays f (Passing Waits d s z x g e l t c false) h
-  passing n d s z x g e l t c b h Idles a = stays f (Passing n d s z x g e l t c b) h
   passing n d s z x g e l t c b h m a = stays f (Passing n d s z x g e l t c b) h
 
   -- all that was on the old path was seen
@@ -183,24 +167,18 @@ module _ {R : Type 0} (f : Frame R) where
       → Fits (Turned n d s z x g e l t c h y b) → (k : ℕ) → Rises k (d ++ (waits (old s z x g e l) ++ (h ++ y))) → (m : Move)
       → Allowed (shape f (Turned n d s z x g e l t c h y b)) m → GoesOn f (Turned n d s z x g e l t c h y b) m
   turned n d s z x g e l t c h y b w k rises (Arrive p) a = to (Turned n d s z x g e l t c h (y ++ p ∷ []) b) w refl (simp paths)
-  turned n d s z x g e [] t c h y b w k rises Take_sa a = stays f (Turned n d s z x g e [] t c h y b) w
   turned n d s z x g e (p ∷ l) t c h y b w k rises Take_sa a =
       to (Turned n d s z x g (e ++ p ∷ []) l t c h y b) (walks (old s z x g (e ++ p ∷ []) l) w refl (simp paths)) refl (simp paths)
-  turned n d s z [] g e l t c h y b w k rises Take_pass a = stays f (Turned n d s z [] g e l t c h y b) w
   turned n d s z (p ∷ x) g e l t c h y b w k rises Take_pass a =
       to (Turned n (d ++ p ∷ []) s (z ++ p ∷ []) x g e l t c h y b) (refit (follow_pass d s z x g e l (copying t c) p w.follows) w) (simp shapes) (simp paths)
-  turned n d s z x [] e l t c h y b w k rises Take_forward a = stays f (Turned n d s z x [] e l t c h y b) w
   turned n d s z x (p ∷ g) e l t c h y b w k rises Take_forward a =
       to (Turned n d s z (x ++ p ∷ []) g e l t c h y b) (walks (old s z (x ++ p ∷ []) g e l) w refl (simp paths)) refl (simp paths)
-  turned n d s z x g e l t c h [] b w k rises Take_plain a = stays f (Turned n d s z x g e l t c h [] b) w
   turned n d s z x g e l t c h (p ∷ y) b w k rises Take_plain a = to (Turned n d s z x g e l t c (h ++ p ∷ []) y b) w refl (simp paths)
-  turned n d s z x g [] l t c h y b w k rises Take_event a = stays f (Turned n d s z x g [] l t c h y b) w
   turned High_comes d s z x g (p ∷ e) l t c h y b w k rises Take_event a =
       to (Turned High_comes d s z x (g ++ p ∷ []) e l t c h y b) (walks (old s z x (g ++ p ∷ []) e l) w refl (simp paths)) refl (simp paths)
   turned Settles d s z x g (p ∷ e) l t c h y b w k rises Take_event a =
       to (Turned Settles d s z x (g ++ p ∷ []) e l t c h y b)
       (walks (old s z x (g ++ p ∷ []) e l) w refl (simp paths)) (let not_yet = w.own.1 in rw not_yet refl) (simp paths)
-  turned n d s [] x g e l t c h y b w k rises Take_seen a = stays f (Turned n d s [] x g e l t c h y b) w
   turned High_comes d s (p ∷ z) x g e l t c h y b w k rises Take_seen a =
       to (Turned High_comes d (Some p) z x g e l t c h y b) (refit (follow_seen d s z x g e l (copying t c) p w.follows) w) refl (simp paths)
   turned Settles d s (p ∷ z) x g e l t [] h y b w k rises Take_seen a =
@@ -210,33 +188,24 @@ module _ {R : Type 0} (f : Frame R) where
   turned High_comes d s z x g e l t (p ∷ c) h y b w k rises Take_sc a =
       to (Turned High_comes d s z x g e l (Some p) c h y b)
       (fit (follow_copy d (old s z x g e l) t c p w.follows) (λ is. let none = w.none_after is in cc) refl) refl (simp paths)
-  turned n d s z x g e l t c h y b w k rises Take_sc a = stays f (Turned n d s z x g e l t c h y b) w
   turned High_comes d s z x g e l t c h y b w k rises End_comes a =
       to (Turned High_comes d s z x g e l t c h y true)
       (fit w.follows (λ _. let none = copied-copies R c (Laid true ∷ []) in sym (append-nil c) ∙ sym none ∙ a.1) w.own) refl (simp paths)
   turned Settles d s z x g e l t c h y b w k rises End_comes a =
       to (Turned Settles d s z x g e l t c h y true) (fit w.follows (λ _. w.own.0) w.own) (let not_yet = w.own.1 in rw not_yet refl) (simp paths)
-  turned High_comes d s z x g e l t c h y b w k rises Idles a = stays f (Turned High_comes d s z x g e l t c h y b) w
   turned Settles d s z x g e l t c h y b w k rises Idles a =
       to (Turned Settles d s z x g e l t c h y b) w (let not_yet = w.own.1 in rw not_yet refl) (simp paths)
   turned n d s z x g e l t c h y b w k rises m a = stays f (Turned n d s z x g e l t c h y b) w
 
   pub ends : (n : Last) (d : List ℕ) (s t : Option ℕ) (h y : List ℕ) (b : Bool) → LastFits n h → (m : Move) → GoesOn f (Ends n d s t h y b) m
-  ends Fence_goes d s t h y b w (Arrive p) = to (Ends Fence_goes d s t h (y ++ p ∷ []) b) w refl (simp paths)
-  ends n d s t h y b w (Arrive p) = to (Ends n d s t h (y ++ p ∷ []) b) w refl (simp paths)
-  ends n d s t h [] b w Take_plain = stays f (Ends n d s t h [] b) w
   ends Fence_goes d s t h (p ∷ y) b w Take_plain = to (Ends Fence_goes d s t (h ++ p ∷ []) y b) tt refl (simp paths)
+  ends n d s t h y b w (Arrive p) = to (Ends n d s t h (y ++ p ∷ []) b) w refl (simp paths)
   ends n d s t [] (p ∷ y) b w Take_plain = to (Ends n (d ++ p ∷ []) s t [] y b) w (simp shapes) (simp paths)
   ends Fenced_comes d s t (q ∷ h) (p ∷ y) b w Take_plain = cc
   ends Is_over d s t (q ∷ h) (p ∷ y) b w Take_plain = cc
   ends Fence_goes d s t h y b w Take_cb = to (Ends Fenced_comes (d ++ h) s t [] y b) refl (simp shapes) (simp paths)
-  ends n d s t h y b w Take_cb = stays f (Ends n d s t h y b) w
   ends Fenced_comes d s t h y b w Take_bc = to (Ends Is_over d s t h y b) w refl (simp paths)
-  ends n d s t h y b w Take_bc = stays f (Ends n d s t h y b) w
-  ends Fence_goes d s t h y b w End_comes = to (Ends Fence_goes d s t h y true) w refl (simp paths)
   ends n d s t h y b w End_comes = to (Ends n d s t h y true) w refl (simp paths)
-  ends Fence_goes d s t h y b w Idles = stays f (Ends Fence_goes d s t h y b) w
-  ends n d s t h y b w Idles = stays f (Ends n d s t h y b) w
   ends n d s t h y b w m = stays f (Ends n d s t h y b) w
 
   -- each step from a stage leads to a stage

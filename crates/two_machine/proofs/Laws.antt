@@ -1,9 +1,7 @@
 -- Laws on lists for the steps of the machine: folds, copies, the last of a list, numbers that rise.
-use Rattle.std.proofs.Common.{◌≡◌, ◌<◌, ℕ, true, Option, Some, None, List, [], ◌∷◌, ◌++◌, refl, sym, ap, arith}
-use Rattle.std.proofs.lemmas.Bool.Decides.{Decides-eqb}
-use Rattle.two_machine.proofs.Machine.{Item, Copied, Frame, stepped, folded, same}
-use Rattle.two_machine.proofs.Stages.{last_of, Rises}
-use Rattle.two_machine.proofs.Shapes.{copies, copied}
+use Rattle.two_machine.proofs.Words.{◌≡◌, ◌<◌, ℕ, true, Option, Some, None, List, [], ◌∷◌, ◌++◌, refl, sym, ap, arith, Decides-eqb, Item, Frame, stepped}
+use Rattle.two_machine.proofs.Words.{folded, same, last_of, Rises, copies, copied}
+use Rattle.two_machine.proofs.Machine.{Copied}
 
 pub folded-append : {R : Type 0} (f : Frame R) (r : Option R) (xs ys : List ℕ) → folded f r (xs ++ ys) ≡ folded f (folded f r xs) ys
 folded-append f r [] ys = refl
@@ -18,9 +16,8 @@ copied-copies R [] xs = refl
 copied-copies R (p ∷ c) xs = ap (λ z. p ∷ z) (copied-copies R c xs)
 
 pub last_put : (xs : List ℕ) (x : ℕ) → last_of (xs ++ x ∷ []) ≡ Some x
-last_put [] x = refl
-last_put (y ∷ []) x = refl
 last_put (y ∷ z ∷ xs) x = last_put (z ∷ xs) x
+last_put w x = refl
 
 pub append_nil_left : {X : Type 0} (xs ys : List X) → xs ++ ys ≡ [] → xs ≡ []
 append_nil_left [] ys e = refl
@@ -55,9 +52,8 @@ pub record Both (s t : Option ℕ) : Type 0 where
   pub two : t ≡ Some number
 
 pub both : (s t : Option ℕ) → same s t ≡ true → Both s t
-both None t e = cc
-both (Some x) None e = cc
 both (Some x) (Some y) e = let is : x ≡ y = (Decides-eqb x y).0 e in record { number = x; one = refl; two = ap Some (sym is) }
+both z t e = cc
 
 pub copied_all : (R : Type 0) (c : List ℕ) → copied (copies {R = R} c) ≡ c
 copied_all R [] = refl

@@ -1,3 +1,4 @@
+pub mod Words
 pub mod Machine
 pub mod Stages
 pub mod Shapes

@@ -1,32 +1,24 @@
 -- A world that isn't complete has an enabled choice.
-use Rattle.std.proofs.Common.{◌≡◌, ◌<◌, ◌⊎◌, inl, inr, ℕ, true, false, Option, Some, None, List, [], ◌∷◌, ◌++◌, refl, sym, ap, subst, ◌∙◌, append-nil, arith}
-use Rattle.std.specs.Prelude.{◌==◌, ◌&&◌, is_some}
-use Rattle.std.proofs.lemmas.Bool.{false≢true}
-use Rattle.std.proofs.lemmas.Bool.Decides.{nat_tests}
-use Rattle.actor_net.specs.declared.choice.Choice.{Choice}
+use Rattle.two_machine.proofs.Words.{◌≡◌, ◌<◌, ◌⊎◌, inl, inr, ℕ, true, false, Option, Some, None, List, [], ◌∷◌, ◌++◌, refl, sym, ap, subst, ◌∙◌, append-nil}
+use Rattle.two_machine.proofs.Words.{arith, ◌==◌, ◌&&◌, is_some, false≢true, nat_tests, Choice, Network, is_enabled, is_done, Over, Frame, State, same, Stage}
+use Rattle.two_machine.proofs.Words.{Not_begun, Waits, No_packet_came, High_comes, Settles, Is_over, Before, Storing, Passing, Turned, Ends, Fits, Rises}
+use Rattle.two_machine.proofs.Words.{last_of, to_list, System, Laws, Msg, Note, Node, In_packet, In_start, In_end, has_room, node_ready, node_ended, World}
+use Rattle.two_machine.proofs.Words.{net, read, starts, Nobody, frame, view, Place, In, Cs, Aw, Bw, Sc, Ac, Bc, Sa, Ca, Sb, Cb, choice, waits, waiting_at}
+use Rattle.two_machine.proofs.Words.{Label, copies, shape, Each}
 use Rattle.actor_net.specs.declared.schedule.Schedule.TheVariants.{First}
 use Rattle.actor_net.specs.Schedules.{pick_of}
-use Rattle.actor_net.specs.Network.{Network, IsWorld, is_enabled, is_done}
+use Rattle.actor_net.specs.Network.{IsWorld}
 use Rattle.actor_net.proofs.ScheduleLaws.{picked_enabled, picked_none}
 use Rattle.actor_net.proofs.DisabledChoices.{stuck_links}
 use Rattle.two_machine.proofs.Machine as m
-use Rattle.two_machine.proofs.Machine.{Over, Frame, State, same}
 use Rattle.two_machine.proofs.Stages as s
-use Rattle.two_machine.proofs.Stages.{Stage, Not_begun, Waits, No_packet_came, High_comes, Settles, Is_over, Before, Storing, Passing, Turned, Ends, Fits}
-use Rattle.two_machine.proofs.Stages.{Rises, last_of, to_list}
 use Rattle.two_machine.proofs.Laws.{append_nil_right}
-use Rattle.two_machine.proofs.Tables.{System, Laws, Msg, Note, Node, In_packet, In_start, In_end, has_room, node_ready, node_ended}
-use Rattle.two_machine.proofs.View.{World, net, read, starts, Nobody, frame, view}
-use Rattle.two_machine.proofs.Places.{Place, In, Cs, Aw, Bw, Sc, Ac, Bc, Sa, Ca, Sb, Cb, choice, waits, waiting_at}
-use Rattle.two_machine.proofs.Labels.{Label}
 use Rattle.two_machine.proofs.Arrivals.{OneEnd, EndsLast, EndAt, In_input_still, On_link, Has_come}
 use Rattle.two_machine.proofs.Runs.{Holds}
 use Rattle.two_machine.proofs.Closing.{Close, Unsent, Closed, Closing, signs, ends, is_at_end}
 use Rattle.two_machine.proofs.RunLengths.{nobody_run}
 use Rattle.two_machine.proofs.Cells.{Counts}
 use Rattle.two_machine.proofs.Promises.{LeadsTo, switch_window}
-use Rattle.two_machine.proofs.Shapes.{copies, shape}
-use Rattle.actor_net.proofs.WeightLaws.{Each}
 
 -- nothing stands on the links, as the machine sees them
 pub record Bare {R : Type 0} (x : State R) : Type 0 where

@@ -1,16 +1,12 @@
 -- What the core's network leaves when a message is taken is the world after it, with messages of their links.
-use Rattle.std.proofs.Common.{◌≡◌, ◌≢◌, ℕ, List, ◌∷◌}
-use Rattle.actor_net.specs.Network.{Network, after, world_next}
-use Rattle.actor_net.proofs.WeightLaws.{Each}
-use Rattle.two_machine.proofs.Machine.{Drops}
+use Rattle.two_machine.proofs.Words.{◌≡◌, ◌≢◌, ℕ, List, ◌∷◌, Network, world_next, Each, Drops, System, Msg, Note, Is_switch, Is_ctrl, Is_inst, switch_step}
+use Rattle.two_machine.proofs.Words.{inst_step, ctrl_step, node_step, World, net, Labels, Label, From_a, From_b, put_switch, put_ctrl, put_a, put_b, result}
+use Rattle.two_machine.proofs.Words.{Place, In, Cs, Aw, Bw, Sc, Ac, Bc, Sa, Ca, Sb, Cb, choice, with_waits}
+use Rattle.actor_net.specs.Network.{after}
 use Rattle.two_machine.proofs.Tables
-use Rattle.two_machine.proofs.Tables.{System, Msg, Note, Is_switch, Is_ctrl, Is_inst, switch_step, inst_step, ctrl_step, node_step, as_node}
-use Rattle.two_machine.proofs.View.{World, net}
-use Rattle.two_machine.proofs.Labels.{Labels, Label}
+use Rattle.two_machine.proofs.Tables.{as_node}
 use Rattle.two_machine.proofs.Rows.{kind}
-use Rattle.two_machine.proofs.Puts.{From_a, From_b, put_switch, put_ctrl, put_a, put_b, after_switch, after_ctrl, after_a, after_b, labels_switch}
-use Rattle.two_machine.proofs.Puts.{labels_ctrl, labels_a, labels_b, result}
-use Rattle.two_machine.proofs.Places.{Place, In, Cs, Aw, Bw, Sc, Ac, Bc, Sa, Ca, Sb, Cb, choice, with_waits}
+use Rattle.two_machine.proofs.Puts.{after_switch, after_ctrl, after_a, after_b, labels_switch, labels_ctrl, labels_a, labels_b}
 use Rattle.two_machine.proofs.StepLabels.{switch_ok, sa_ok, ca_ok, sb_ok, cb_ok, ctrl_ok, GivesChunks, gives}
 
 module _ {U T C R O : Type 0} (S : System U T C R O) where

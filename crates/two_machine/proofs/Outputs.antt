@@ -1,21 +1,15 @@
 -- Along every run: the outputs to a unit's packets are those of the fold, and a unit that the filter doesn't take stays at A.
-use Rattle.std.proofs.Common.{◌≡◌, ℕ, Bool, true, false, Option, Some, None, List, [], ◌∷◌, ◌++◌, refl, sym, ap, subst, ◌∙◌}
-use Rattle.std.specs.Prelude.{if◌then◌else◌}
-use Rattle.std.proofs.lemmas.Bool.{false≢true}
+use Rattle.two_machine.proofs.Words.{◌≡◌, ℕ, Bool, true, false, Option, Some, None, List, [], ◌∷◌, ◌++◌, refl, sym, ap, subst, ◌∙◌, if◌then◌else◌, false≢true}
+use Rattle.two_machine.proofs.Words.{Free, Target, To_a, Item, State, Frame, stepped, folded, after, Stage, Restore_goes, Before, Storing}
+use Rattle.two_machine.proofs.Words.{Passing, Turned, Ends, done, Rises, System, Laws, Msg, Note, Switch, Inst, In_packet, Lay, Carry, Pass, Stop, Enable, Get}
+use Rattle.two_machine.proofs.Words.{Delete, Restore, Fence, Processed, has_room, goes, switch_step, processed, all_processed, inst_step, ctrl_step, Step}
+use Rattle.two_machine.proofs.Words.{World, read, read-append, those, carries, item, ran, Of_unit, frame, view, Place, Ca, Cb, Sa, Sb, Sc, Ac, Bc, with_waits}
+use Rattle.two_machine.proofs.Words.{Label, result, done_is, shape, Each}
 use Rattle.two_machine.proofs.Machine as m
-use Rattle.two_machine.proofs.Machine.{Free, Target, To_a, To_both, To_b, Item, State, Frame, stepped, folded, after}
-use Rattle.two_machine.proofs.Stages.{Stage, Restore_goes, Before, Storing, Passing, Turned, Ends, done, Rises}
-use Rattle.two_machine.proofs.Tables.{System, Laws, Msg, Note, Switch, Inst, In_packet, Lay, Carry, Pass, Stop, Enable, Get, Delete, Restore, Fence}
-use Rattle.two_machine.proofs.Tables.{Processed, has_room, goes, switch_step, processed, all_processed, inst_step, ctrl_step, Step}
-use Rattle.two_machine.proofs.View.{World, read, read-append, those, carries, passes, item, ran, Of_unit, frame, view}
+use Rattle.two_machine.proofs.View.{passes}
 use Rattle.two_machine.proofs.Promises.{given}
-use Rattle.two_machine.proofs.Places.{Place, Ca, Cb, Sa, Sb, Sc, Ac, Bc, with_waits}
-use Rattle.two_machine.proofs.Labels.{Label}
 use Rattle.two_machine.proofs.Rows.{Carried, Runs, Hands_out, Held, carried}
-use Rattle.two_machine.proofs.Puts.{result}
 use Rattle.two_machine.proofs.Runs.{Holds}
-use Rattle.two_machine.proofs.Shapes.{done_is, shape}
-use Rattle.actor_net.proofs.WeightLaws.{Each}
 use Rattle.two_machine.proofs.StepLabels.{ctrl_ok, gives}
 
 -- where a packet is processed, the record is that of all that was done
@@ -210,8 +204,7 @@ module _ {U T C R O : Type 0} (S : System U T C R O) (laws : Laws S) (u : U) (it
           right_more S laws u v.log (processed S 0 v.a p).notes right
           (right_one S laws u 0 v.a.table p (record_by S laws u v.log)
           (λ own. fresh.at_a (free (cover_mine S laws u its p own)) ∙ by_log (with_waits S Sa (Carry p ∷ rest) v) h))
-      by (Hands_out drops covers) = right_none S laws u v.log [] right refl
-      by (Held covers) = right_none S laws u v.log [] right refl
+      by x = right_none S laws u v.log [] right refl
   right_sa v Stop rest l h right = right_none S laws u v.log [] right refl
   right_sa v x rest l h right = absurd l
 

@@ -1,13 +1,8 @@
 -- The theorem's words: what is read off a run of a two-phase update, and what holds of every run. Packets go by their numbers.
-use Rattle.std.proofs.Common.{◌≡◌, ◌≤◌, ◌⊎◌, ℕ, ◌+◌, ◌*◌, Bool, true, false, Option, Some, None, List, [], ◌∷◌, ◌++◌, length}
-use Rattle.std.specs.Prelude.{if◌then◌else◌, ◌||◌}
-use Rattle.actor_net.specs.declared.choice.Choice.{Choice}
-use Rattle.actor_net.specs.Network.{Network, IsRun, is_enabled, is_done, run}
-use Rattle.actor_net.specs.Opening.{opening}
+use Rattle.two_machine.proofs.Words.{◌≡◌, ◌≤◌, ◌⊎◌, ℕ, ◌+◌, ◌*◌, Bool, true, false, Option, Some, None, List, [], ◌∷◌, ◌++◌, length, if◌then◌else◌, ◌||◌}
+use Rattle.two_machine.proofs.Words.{Choice, Network, IsRun, is_enabled, is_done, run, opening, System, Msg, Note, Node, Arrived, Processed, Low, High, Done}
+use Rattle.two_machine.proofs.Words.{No_packet, Is_switch, Is_inst, node_step, node_ready, node_ended, first_nodes, items, read, those, arrived, ran}
 pub use Rattle.actor_net.specs.Numbers.{IsFront, times}
-use Rattle.two_machine.proofs.Tables.{System, Msg, Note, Node, Arrived, Processed, Low, High, Done, No_packet, Is_switch, Is_inst, node_step, node_ready}
-use Rattle.two_machine.proofs.Tables.{node_ended, first_nodes, items}
-use Rattle.two_machine.proofs.View.{read, those, arrived, ran}
 
 -- a list with one item in front, if there is one
 abbrev pub listed : {X : Type 0} → Option X → List X → List X

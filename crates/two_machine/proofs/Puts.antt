@@ -78,20 +78,18 @@ module _ {U T C R O : Type 0} (S : System U T C R O) where
   by_switch : (v : World T C O) (xs : List (ℕ × Msg C)) → Each (λ x. From_switch x.0 x.1) xs
       → links_after 4 0 xs (links v) ≡ links (record v { sc = v.sc ++ sent 1 xs; sa = v.sa ++ sent 2 xs; sb = v.sb ++ sent 3 xs })
   by_switch v [] h = simp append-nil
-  by_switch v ((zero, m) ∷ xs) h = absurd h.0
   by_switch v ((suc zero, m) ∷ xs) h = by_switch (record v { sc = v.sc ++ m ∷ [] }) xs h.1 ∙ simp append_assoc
   by_switch v ((suc (suc zero), m) ∷ xs) h = by_switch (record v { sa = v.sa ++ m ∷ [] }) xs h.1 ∙ simp append_assoc
   by_switch v ((suc (suc (suc zero)), m) ∷ xs) h = by_switch (record v { sb = v.sb ++ m ∷ [] }) xs h.1 ∙ simp append_assoc
-  by_switch v ((suc (suc (suc (suc k))), m) ∷ xs) h = absurd h.0
+  by_switch v x h = absurd h.0
 
   by_ctrl : (v : World T C O) (xs : List (ℕ × Msg C)) → Each (λ x. FromCtrl x.0 x.1) xs
       → links_after 4 1 xs (links v) ≡ links (record v { cs = v.cs ++ sent 0 xs; ca = v.ca ++ sent 2 xs; cb = v.cb ++ sent 3 xs })
   by_ctrl v [] h = simp append-nil
   by_ctrl v ((zero, m) ∷ xs) h = by_ctrl (record v { cs = v.cs ++ m ∷ [] }) xs h.1 ∙ simp append_assoc
-  by_ctrl v ((suc zero, m) ∷ xs) h = absurd h.0
   by_ctrl v ((suc (suc zero), m) ∷ xs) h = by_ctrl (record v { ca = v.ca ++ m ∷ [] }) xs h.1 ∙ simp append_assoc
   by_ctrl v ((suc (suc (suc zero)), m) ∷ xs) h = by_ctrl (record v { cb = v.cb ++ m ∷ [] }) xs h.1 ∙ simp append_assoc
-  by_ctrl v ((suc (suc (suc (suc k))), m) ∷ xs) h = absurd h.0
+  by_ctrl v x h = absurd h.0
 
   by_a : (v : World T C O) (xs : List (ℕ × Msg C)) → Each (λ x. From_a x.0 x.1) xs
       → links_after 4 2 xs (links v) ≡ links (record v { aw = v.aw ++ sent 0 xs; ac = v.ac ++ sent 1 xs })

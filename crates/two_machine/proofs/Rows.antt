@@ -1,14 +1,13 @@
 -- The tables as lists of rows: what the controller does with a message, and then as soon as it may, and what an instance does with a plain packet.
-use Rattle.std.proofs.Common.{◌≡◌, ℕ, Bool, true, false, Some, [], ◌∷◌, ◌++◌, refl, sym, ◌∙◌}
-use Rattle.std.specs.Prelude.{if◌then◌else◌, ◌==◌, ◌&&◌, not}
-use Rattle.std.proofs.lemmas.Bool.{false≢true}
-use Rattle.two_machine.proofs.Machine.{Rule, Free, Drops, Buffers, Phase, Idle, Freezing, Getting, Deleting, Putting, Holding, Laying, Waiting, Turning}
-use Rattle.two_machine.proofs.Machine.{Settling, Ending, Over, same}
+use Rattle.two_machine.proofs.Words.{◌≡◌, ℕ, Bool, true, false, Some, [], ◌∷◌, ◌++◌, refl, sym, ◌∙◌, if◌then◌else◌, ◌==◌, ◌&&◌, false≢true, Rule, Free, Drops}
+use Rattle.two_machine.proofs.Words.{Buffers, Phase, Idle, Freezing, Getting, Deleting, Putting, Holding, Laying, Waiting, Turning, Settling, Ending, Over}
+use Rattle.two_machine.proofs.Words.{same, System, Msg, Ctrl, Step, Start, End, Copied, Laid, Forward, Lay, Finish, Enable, Get, Delete, Restore, Fence}
+use Rattle.two_machine.proofs.Words.{Enabled, Chunks, Deleted, Restored, Event, Seen, Fenced, Final, Done, still, says, forwards, none, on_start, on_enabled}
+use Rattle.two_machine.proofs.Words.{on_chunks, on_deleted, on_restored, on_event, on_laid, on_copied, on_fenced, ctrl_row, soon_at, is_over, finishes, Inst}
+use Rattle.two_machine.proofs.Words.{Carry, inst_step, processed, ruled}
+use Rattle.std.specs.Prelude.{not}
 use Rattle.two_machine.proofs.Tables
-use Rattle.two_machine.proofs.Tables.{System, Msg, Ctrl, Step, Start, End, Copied, Laid, Forward, Lay, Finish, Enable, Get, Delete, Restore, Fence, Enabled}
-use Rattle.two_machine.proofs.Tables.{Chunks, Deleted, Restored, Event, Seen, Fenced, Final, Done, still, says, to_phase, stored, forwards, none, on_start}
-use Rattle.two_machine.proofs.Tables.{on_enabled, on_chunks, on_deleted, on_restored, on_event, on_laid, on_copied, on_fenced, ctrl_row, soon_at, is_over}
-use Rattle.two_machine.proofs.Tables.{finishes, Inst, Carry, inst_step, processed, ruled}
+use Rattle.two_machine.proofs.Tables.{to_phase, stored}
 use Rattle.two_machine.proofs.Closing.{is_at_end}
 
 -- what a message brings besides its turn: a packet, the end of the input, chunks, or the end of an instance, of A or of B

@@ -1,13 +1,7 @@
 -- Every run as nobody sees it: the switch counts the packets under way, and each choice lowers the weight of the world, which starts at eight for a
 -- packet and 26.
-use Rattle.std.proofs.Common.{◌≡◌, ◌≤◌, ℕ, ◌+◌, ◌*◌, List, [], ◌∷◌, ◌++◌, length, refl, arith}
-use Rattle.actor_net.specs.declared.choice.Choice.{Choice}
-use Rattle.actor_net.specs.Network.{run, IsRun}
-use Rattle.actor_net.proofs.WeightLaws.{weigh}
-use Rattle.two_machine.proofs.Stages.{Rises}
-use Rattle.two_machine.proofs.Tables.{System, Laws, In_end, node_step, node_ready, in_packets, items}
-use Rattle.two_machine.proofs.View.{World, Nobody}
-use Rattle.two_machine.proofs.Places.{with_waits}
+use Rattle.two_machine.proofs.Words.{◌≡◌, ◌≤◌, ℕ, ◌+◌, ◌*◌, List, [], ◌∷◌, ◌++◌, length, refl, arith, Choice, run, IsRun, weigh, Rises, System, Laws, In_end}
+use Rattle.two_machine.proofs.Words.{node_step, node_ready, in_packets, items, World, Nobody, with_waits}
 use Rattle.two_machine.proofs.Runs.{Reached, Keeps, known}
 use Rattle.two_machine.proofs.Promises.{start}
 use Rattle.two_machine.proofs.Cells.{Counts, counts_keeps}

@@ -1,24 +1,15 @@
 -- What holds of every world of a run, complete or not: each observer sees a stage, with the packets in order.
-use Rattle.std.proofs.Common.{◌≡◌, ◌<◌, ℕ, suc, ◌+◌, length, Bool, true, false, Option, Some, None, List, [], ◌∷◌, ◌++◌, refl, sym, ap, subst, ◌∙◌}
-use Rattle.std.proofs.Common.{append_assoc, append-nil, arith}
-use Rattle.std.specs.Prelude.{if◌then◌else◌}
-use Rattle.actor_net.specs.declared.choice.Choice.{Choice}
-use Rattle.actor_net.specs.Network.{Network, is_enabled, world_next, run, IsRun}
-use Rattle.two_machine.proofs.Machine.{Move, State}
-use Rattle.two_machine.proofs.Stages.{Stage, done, path, Fits, Rises}
+use Rattle.two_machine.proofs.Words.{◌≡◌, ◌<◌, ℕ, suc, ◌+◌, length, Bool, true, false, Option, Some, None, List, [], ◌∷◌, ◌++◌, refl, sym, ap, subst, ◌∙◌}
+use Rattle.two_machine.proofs.Words.{append_assoc, append-nil, arith, if◌then◌else◌, Choice, Network, is_enabled, world_next, run, IsRun, Move, State, Stage}
+use Rattle.two_machine.proofs.Words.{done, path, Fits, Rises, System, Laws, Msg, Note, Node, In_packet, End, node_step, node_ready, World, net, read, those}
+use Rattle.two_machine.proofs.Words.{those-append, arrived, Observer, IsTaken, frame, view, Labels, Label, Place, In, Sc, choice, with_waits, comes, result}
+use Rattle.two_machine.proofs.Words.{shape, Each}
 use Rattle.two_machine.proofs.Laws.{rises_front}
 use Rattle.two_machine.proofs.LateSteps.{goes_on}
-use Rattle.two_machine.proofs.Tables.{System, Laws, Msg, Note, Node, In_packet, End, node_step, node_ready}
-use Rattle.two_machine.proofs.View.{World, net, read, those, those-append, arrived, Observer, IsTaken, frame, view}
-use Rattle.two_machine.proofs.Labels.{Labels, Label}
-use Rattle.two_machine.proofs.Places.{Place, In, Sc, choice, with_waits, comes}
-use Rattle.two_machine.proofs.Puts.{result}
 use Rattle.two_machine.proofs.StageFacts.{Knows, knows, each_those, each_after}
 use Rattle.two_machine.proofs.TurnSees.{moved_by, AllowedBy, brought, Permits, turn}
 use Rattle.two_machine.proofs.Arrivals.{coming, EndAt, In_input_still, On_link, Has_come, quiet_copied, Ready, arrivals, end_goes}
 use Rattle.two_machine.proofs.TakenMessages.{finds, labels_less, kept_there, written, log_there, rule_there, left_in}
-use Rattle.two_machine.proofs.Shapes.{shape}
-use Rattle.actor_net.proofs.WeightLaws.{Each}
 use Rattle.two_machine.proofs.Closing.{Closing}
 use Rattle.two_machine.proofs.ClosingPlaces.{closing_keeps}
 use Rattle.two_machine.proofs.NextWorlds.{IsNext, next_is}

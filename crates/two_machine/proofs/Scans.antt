@@ -1,14 +1,12 @@
 -- What the scan of a log tells: Low before High with a packet between them, and the verdict.
-use Rattle.std.proofs.Common.{◌≡◌, ℕ, Bool, true, false, List, [], ◌∷◌, ◌++◌, refl, sym, ap, ◌∙◌, append-nil}
-use Rattle.std.specs.Prelude.{if◌then◌else◌, ◌||◌}
+use Rattle.two_machine.proofs.Words.{◌≡◌, ℕ, Bool, true, false, List, [], ◌∷◌, ◌++◌, refl, sym, ap, ◌∙◌, append-nil, if◌then◌else◌, ◌||◌, false≢true, Scan}
+use Rattle.two_machine.proofs.Words.{No_low, Is_done, Is_none, Frame, Stage, Passing, Ends, Low_comes, Waits, Is_over, System, Note, Arrived, Processed, Low}
+use Rattle.two_machine.proofs.Words.{High, Done, No_packet, scans, scans-append, shape}
 use Rattle.std.proofs.Math.Bool.{or-false}
-use Rattle.std.proofs.lemmas.Bool.{false≢true}
-use Rattle.two_machine.proofs.Machine.{Scan, No_low, Low_only, Low_came, High_laid, Is_done, Is_none, Wrong, Frame}
-use Rattle.two_machine.proofs.Stages.{Stage, Passing, Ends, Low_comes, Waits, Is_over}
-use Rattle.two_machine.proofs.Tables.{System, Note, Arrived, Processed, Low, High, Done, No_packet}
-use Rattle.two_machine.proofs.View.{scan_note, scans, scans-append}
+use Rattle.two_machine.proofs.Machine.{Low_only, Low_came, High_laid, Wrong}
+use Rattle.two_machine.proofs.View.{scan_note}
 use Rattle.two_machine.proofs.Promises.{after_low, has_come, verdicts}
-use Rattle.two_machine.proofs.Shapes.{shape, since}
+use Rattle.two_machine.proofs.Shapes.{since}
 
 -- whether such a packet came since Low
 abbrev pub came_by : Scan → Bool

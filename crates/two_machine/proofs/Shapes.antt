@@ -145,112 +145,82 @@ last_scan Is_over = Is_done
 last_scan n = High_laid
 
 module _ {R : Type 0} (f : Frame R) where
-  abbrev pub shape : Stage → State R
-  shape (Before n d l b) = record {
-    starts = starts_of n;
-    sa = l;
-    passes = [];
-    plains = [];
-    forwards = [];
-    events = [];
-    seens = [];
-    sc = [];
-    cs = [];
-    ca = enables n;
-    cb = [];
-    ac = [];
-    bc = [];
-    target = To_a;
-    a = record { rule = Free; held = []; live = after f d };
-    b = record { rule = Free; held = []; live = None };
-    c = record { phase = early_phase n; store = []; kept = None; last = None; seen = None; ended = b };
-    done = d;
-    scan = No_low;
-  }
-  shape (Storing n d g e l b) = record {
-    starts = [];
-    sa = l;
-    passes = [];
-    plains = [];
-    forwards = [];
-    events = e;
-    seens = [];
-    sc = [];
-    cs = [];
-    ca = part_ca (after f d) n;
-    cb = part_cb (after f d) n;
-    ac = part_ac (after f d) n;
-    bc = part_bc (after f d) n;
-    target = To_a;
-    a = record { rule = Drops; held = []; live = part_a (after f d) n };
-    b = record { rule = part_rule n; held = []; live = part_b (after f d) n };
-    c = record { phase = part_phase n; store = g; kept = part_kept (after f d) n; last = None; seen = None; ended = b };
-    done = d;
-    scan = No_low;
-  }
-  shape (Passing n d s z x g e l t c b) = record {
-    starts = [];
-    sa = l;
-    passes = x;
-    plains = [];
-    forwards = g;
-    events = e;
-    seens = z;
-    sc = turn_sc n c;
-    cs = turn_cs n;
-    ca = [];
-    cb = [];
-    ac = [];
-    bc = [];
-    target = turn_target n;
-    a = record { rule = Drops; held = []; live = None };
-    b = record { rule = Buffers; held = []; live = after f d };
-    c = record { phase = turn_phase n; store = []; kept = None; last = t; seen = s; ended = b };
-    done = d;
-    scan = turn_scan n c;
-  }
-  shape (Turned n d s z x g e l t c h y b) = record {
-    starts = [];
-    sa = l;
-    passes = x;
-    plains = y;
-    forwards = g;
-    events = e;
-    seens = z;
-    sc = late_sc n c;
-    cs = [];
-    ca = [];
-    cb = [];
-    ac = [];
-    bc = [];
-    target = To_b;
-    a = record { rule = Drops; held = []; live = None };
-    b = record { rule = Buffers; held = h; live = after f d };
-    c = record { phase = late_phase n; store = []; kept = None; last = t; seen = s; ended = b };
-    done = d;
-    scan = High_laid;
-  }
-  shape (Ends n d s t h y b) = record {
+  -- nothing on its way, no packet held or processed, and no record
+  abbrev bare : State R
+  bare = record {
     starts = [];
     sa = [];
     passes = [];
-    plains = y;
+    plains = [];
     forwards = [];
     events = [];
     seens = [];
     sc = [];
     cs = [];
     ca = [];
-    cb = last_cb n;
+    cb = [];
     ac = [];
-    bc = last_bc n;
-    target = To_b;
-    a = record { rule = Drops; held = []; live = None };
-    b = record { rule = last_rule n; held = h; live = after f d };
-    c = record { phase = last_phase n; store = []; kept = None; last = s; seen = t; ended = b };
-    done = d;
-    scan = last_scan n;
+    bc = [];
+    target = To_a;
+    a = record { rule = Free; held = []; live = None };
+    b = record { rule = Free; held = []; live = None };
+    c = record { phase = Idle; store = []; kept = None; last = None; seen = None; ended = false };
+    done = [];
+    scan = No_low;
   }
+
+  -- what is on the old path, and what was processed
+  abbrev along : List ℕ → List ℕ → List ℕ → List ℕ → List ℕ → List ℕ → State R
+  along d z x g e l = record bare { done = d; seens = z; passes = x; forwards = g; events = e; sa = l; a = record { rule = Drops; held = []; live = None } }
+
+  abbrev pub shape : Stage → State R
+  shape (Before n d l b) =
+      record bare {
+        starts = starts_of n;
+        sa = l;
+        ca = enables n;
+        a = record bare.a { live = after f d };
+        c = record bare.c { phase = early_phase n; ended = b };
+        done = d;
+      }
+  shape (Storing n d g e l b) =
+      record (along d [] [] [] e l) {
+        ca = part_ca (after f d) n;
+        cb = part_cb (after f d) n;
+        ac = part_ac (after f d) n;
+        bc = part_bc (after f d) n;
+        a = record { rule = Drops; held = []; live = part_a (after f d) n };
+        b = record { rule = part_rule n; held = []; live = part_b (after f d) n };
+        c = record bare.c { phase = part_phase n; store = g; kept = part_kept (after f d) n; ended = b };
+      }
+  shape (Passing n d s z x g e l t c b) =
+      record (along d z x g e l) {
+        sc = turn_sc n c;
+        cs = turn_cs n;
+        target = turn_target n;
+        b = record { rule = Buffers; held = []; live = after f d };
+        c = record bare.c { phase = turn_phase n; last = t; seen = s; ended = b };
+        scan = turn_scan n c;
+      }
+  shape (Turned n d s z x g e l t c h y b) =
+      record (along d z x g e l) {
+        plains = y;
+        sc = late_sc n c;
+        target = To_b;
+        b = record { rule = Buffers; held = h; live = after f d };
+        c = record bare.c { phase = late_phase n; last = t; seen = s; ended = b };
+        scan = High_laid;
+      }
+  shape (Ends n d s t h y b) =
+      record (along d [] [] [] [] []) {
+        plains = y;
+        cb = last_cb n;
+        bc = last_bc n;
+        target = To_b;
+        b = record { rule = last_rule n; held = h; live = after f d };
+        c = record bare.c { phase = last_phase n; last = s; seen = t; ended = b };
+        scan = last_scan n;
+      }
 
 -- the numbers of copies on a link
 abbrev pub copied : {R : Type 0} → List (Item R) → List ℕ

@@ -1,13 +1,9 @@
 -- What every stage tells of the machine's state: packets on their way are such as the filter matches, B has no rule that drops, and has no
 -- record where one is to be restored.
-use Rattle.std.proofs.Common.{◌≡◌, ◌≢◌, ℕ, Bool, true, false, Option, None, List, [], ◌∷◌, ◌++◌, refl}
-use Rattle.std.specs.Prelude.{if◌then◌else◌}
-use Rattle.two_machine.proofs.Machine.{Drops, Item, Restore, Frame, State}
-use Rattle.two_machine.proofs.Stages.{Early, Not_begun, Restored_comes, Hold_goes, Held_comes, Fence_goes, Stage, Before, Storing, Passing, Turned, Ends}
-use Rattle.two_machine.proofs.Stages.{path}
-use Rattle.two_machine.proofs.View.{those}
-use Rattle.two_machine.proofs.Shapes.{shape}
-use Rattle.actor_net.proofs.WeightLaws.{Each}
+use Rattle.two_machine.proofs.Words.{◌≡◌, ◌≢◌, ℕ, Bool, true, false, Option, None, List, [], ◌∷◌, ◌++◌, refl, if◌then◌else◌, Drops, Item, Frame, State, Early}
+use Rattle.two_machine.proofs.Words.{Not_begun, Restored_comes, Hold_goes, Held_comes, Fence_goes, Stage, Before, Storing, Passing, Turned, Ends, path, those}
+use Rattle.two_machine.proofs.Words.{shape, Each}
+use Rattle.two_machine.proofs.Machine.{Restore}
 
 pub each_front : {M : Type 0} (P : M → Type 0) (xs ys : List M) → Each P (xs ++ ys) → Each P xs
 each_front P [] ys h = tt
@@ -54,14 +50,13 @@ module _ {R : Type 0} (f : Frame R) (P : ℕ → Type 0) where
 
   -- the packets of a stage on the links and in B's hold
   kept_there : (s : Stage) → Each P (path s) → Each P (shape f s).plains × Each P (shape f s).passes × Each P (shape f s).b.held
-  kept_there (Before n d l b) h = (tt, tt, tt)
-  kept_there (Storing n d g e l b) h = (tt, tt, tt)
   kept_there (Passing n d s z x g e l t c b) h = (tt, each_front P x (g ++ (e ++ l)) h, tt)
   kept_there (Turned n d s z x g e l t c h' y b) h =
       let first = each_front P (x ++ (g ++ (e ++ l))) (h' ++ y) h in
       let second = each_after P (x ++ (g ++ (e ++ l))) (h' ++ y) h in
       (each_after P h' y second, each_front P x (g ++ (e ++ l)) first, each_front P h' y second)
   kept_there (Ends n d s t h' y b) h = (each_after P h' y h, tt, each_front P h' y h)
+  kept_there w h = (tt, tt, tt)
 
   starts_there : (s : Stage) (i : ℕ) (k : List ℕ) → (shape f s).starts ≡ i ∷ k → k ≡ []
   starts_there (Before n d l b) i k e = before_starts n d l b i k e

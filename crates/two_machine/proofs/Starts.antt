@@ -1,19 +1,13 @@
 -- The world at the start, and every run from there.
-use Rattle.std.proofs.Common.{◌≡◌, ℕ, ◌+◌, length, false, None, List, [], ◌∷◌, ◌++◌, refl, ap}
-use Rattle.actor_net.specs.declared.choice.Choice.{Choice}
-use Rattle.actor_net.specs.Network.{run, IsRun}
-use Rattle.actor_net.specs.Opening.{opening}
+use Rattle.two_machine.proofs.Words.{◌≡◌, ℕ, ◌+◌, length, false, None, List, [], ◌∷◌, ◌++◌, refl, ap, Choice, run, IsRun, opening, Before, Not_begun, Rises}
+use Rattle.two_machine.proofs.Words.{System, Laws, In_end, none, node_step, node_ready, in_packets, first_nodes, items, World, net, read, starts, Observer}
+use Rattle.two_machine.proofs.Words.{Nobody, Of_unit, IsTaken, own, Place, In, waits, Label, Each}
 use Rattle.two_machine.proofs.Machine as m
-use Rattle.two_machine.proofs.Stages.{Before, Not_begun, Rises}
-use Rattle.two_machine.proofs.Tables.{System, Laws, In_end, none, node_step, node_ready, in_packets, fresh, first_nodes, items}
-use Rattle.two_machine.proofs.View.{World, net, read, starts, Observer, Nobody, Of_unit, IsTaken, own}
-use Rattle.two_machine.proofs.Places.{Place, In, waits}
-use Rattle.two_machine.proofs.Labels.{Label}
+use Rattle.two_machine.proofs.Tables.{fresh}
 use Rattle.two_machine.proofs.ControllerSees.{inside_none}
 use Rattle.two_machine.proofs.Arrivals.{coming, EndsLast, In_input_still}
 use Rattle.two_machine.proofs.Runs.{Holds, Reached, Keeps, reach}
 use Rattle.two_machine.proofs.Closing.{Unsent}
-use Rattle.actor_net.proofs.WeightLaws.{Each}
 
 -- the world at the start
 module _ {U T C R O : Type 0} (S : System U T C R O) where

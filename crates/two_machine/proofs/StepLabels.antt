@@ -1,25 +1,19 @@
 -- Each node sends what its links have, whatever message of its own it takes.
-use Rattle.std.proofs.Common.{◌≡◌, ◌≢◌, ℕ, Bool, true, false, List, [], ◌∷◌, refl, ◌∙◌}
-use Rattle.std.specs.Prelude.{if◌then◌else◌, ◌==◌}
-use Rattle.two_machine.proofs.Machine.{Free, Drops, Target, To_a, To_both, To_b}
-use Rattle.two_machine.proofs.Tables.{System, Msg, Switch, Ctrl, Inst, Step, In_packet, In_start, In_end, Forward, Lay, Finish, Carry, Pass, Stop, Enable}
-use Rattle.two_machine.proofs.Tables.{Get, Delete, Restore, Fence, Chunks, Fenced, has_room, goes, switch_step, processed, all_processed, inst_step, forwards}
-use Rattle.two_machine.proofs.Tables.{ctrl_row, and_then, soon_at, finishes, soon, ctrl_step}
-use Rattle.two_machine.proofs.View.{read, read-append, arrived, ran}
-use Rattle.two_machine.proofs.Places.{Place, Ca, Cb, Sa, Sb, Ac, choice}
-use Rattle.two_machine.proofs.Labels.{IsSelected, Label}
+use Rattle.two_machine.proofs.Words.{◌≡◌, ◌≢◌, ℕ, Bool, true, false, List, [], ◌∷◌, refl, ◌∙◌, if◌then◌else◌, ◌==◌, Free, Drops, Target, To_a, To_both, To_b}
+use Rattle.two_machine.proofs.Words.{System, Msg, Switch, Ctrl, Inst, Step, In_packet, In_start, In_end, Forward, Lay, Finish, Carry, Pass, Stop, Enable, Get}
+use Rattle.two_machine.proofs.Words.{Delete, Restore, Fence, Chunks, Fenced, has_room, goes, switch_step, processed, all_processed, inst_step, forwards}
+use Rattle.two_machine.proofs.Words.{ctrl_row, and_then, soon_at, finishes, soon, ctrl_step, read, read-append, arrived, ran, Place, Ca, Cb, Sa, Sb, Ac}
+use Rattle.two_machine.proofs.Words.{choice, IsSelected, Label, From_a, From_b, Each, each-append}
 use Rattle.two_machine.proofs.Rows.{Kind, Ended, Has, kind, Row, Stays, Passes_over, Freezes, Gets, Deletes, Restores, Holds, Lays_low, Waits, Lays_high}
 use Rattle.two_machine.proofs.Rows.{Copies, Settles, Fences, Is_over, None_came, Stores, Forwards, Sees, Hears_end, Hears_a, Hears_b, Finishes, Not_yet, Asks}
 use Rattle.two_machine.proofs.Rows.{row, soon_row, finish_row, Carried, Runs, Hands_out, Held, carried}
-use Rattle.two_machine.proofs.Puts.{From_switch, FromCtrl, From_a, From_b}
-use Rattle.actor_net.proofs.WeightLaws.{Each, each-append}
+use Rattle.two_machine.proofs.Puts.{From_switch, FromCtrl}
 
 module _ {U T C R O : Type 0} (S : System U T C R O) where
   -- the switch sends each message where it belongs
   goes_ok : (t : Target) (s : Switch) (p : ℕ) → Each (λ x. From_switch S x.0 x.1) (goes S t s p).sends
-  goes_ok To_a s p = (tt, tt)
   goes_ok To_both s p = (tt, (tt, tt))
-  goes_ok To_b s p = (tt, tt)
+  goes_ok x s p = (tt, tt)
 
   pub switch_ok : (s : Switch) (m : Msg C) → Each (λ x. From_switch S x.0 x.1) (switch_step S s m).sends
   switch_ok s (In_packet p) =
@@ -47,8 +41,7 @@ module _ {U T C R O : Type 0} (S : System U T C R O) where
 
   carry_a : {i : Inst T} {p : ℕ} {did : Step S (Inst T)} → Carried S 0 i p did → Each (λ x. From_a S x.0 x.1) did.sends
   carry_a (Held covers) = tt
-  carry_a (Runs free) = (tt, tt)
-  carry_a (Hands_out drops covers) = (tt, tt)
+  carry_a x = (tt, tt)
 
   carry_b : {i : Inst T} {p : ℕ} {did : Step S (Inst T)} → i.rule ≢ Drops → Carried S 1 i p did → Each (λ x. From_b S x.0 x.1) did.sends
   carry_b no_drop (Runs free) = (tt, tt)
@@ -115,8 +108,6 @@ module _ {U T C R O : Type 0} (S : System U T C R O) where
   ok sends kept ended quiet unrun = record { sends = sends; kept = kept; ended = ended; quiet = quiet; unrun = unrun }
 
   row_ok : {c : Ctrl C} {k : Kind C} {did : Step S (Ctrl C)} → IsSelected S c.kept → GivesChunks k → Row S c k did → CtrlOk (ended_by k c) did
-  row_ok kept h Stays = ok tt kept refl refl refl
-  row_ok kept h (Passes_over cs) = ok tt kept refl refl refl
   row_ok kept h (Freezes e) = ok (tt, tt) kept refl refl refl
   row_ok kept h (Gets e) = ok (tt, tt) kept refl refl refl
   row_ok kept h (Deletes cs e) = ok (h, tt) h refl refl refl
@@ -124,19 +115,11 @@ module _ {U T C R O : Type 0} (S : System U T C R O) where
   row_ok kept h (Holds e) = ok (tt, tt) kept refl refl refl
   row_ok {c} kept h (Lays_low e) =
       ok (each-append (λ x. FromCtrl S x.0 x.1) (forwards S c.store) ((0, Lay false) ∷ []) (forwards_ok c.store) (tt, tt)) kept refl refl refl
-  row_ok kept h (Waits e) = ok tt kept refl refl refl
   row_ok kept h (Lays_high p e) = ok (tt, tt) kept refl refl refl
-  row_ok kept h (Copies p) = ok tt kept refl refl refl
-  row_ok kept h (Settles e) = ok tt kept refl refl refl
   row_ok kept h (Fences e) = ok (tt, tt) kept refl refl refl
-  row_ok kept h (Is_over e) = ok tt kept refl refl refl
-  row_ok kept h (None_came e) = ok tt kept refl refl refl
-  row_ok kept h (Stores p) = ok tt kept refl refl refl
   row_ok kept h (Forwards p) = ok (tt, tt) kept refl refl refl
-  row_ok kept h (Sees p) = ok tt kept refl refl refl
-  row_ok kept h Hears_end = ok tt kept refl refl refl
   row_ok kept h Hears_a = ok (tt, tt) kept refl refl refl
-  row_ok kept h Hears_b = ok tt kept refl refl refl
+  row_ok kept h x = ok tt kept refl refl refl
 
   finish_ok : {c : Ctrl C} {did : Step S (Ctrl C)} → IsSelected S c.kept → Finishes S c did → CtrlOk c.ended did
   finish_ok kept (Not_yet e) = ok tt kept refl refl refl

@@ -1,17 +1,11 @@
 -- Which message an enabled choice takes, and what is known of the world without it.
-use Rattle.std.proofs.Common.{◌≡◌, ◌≢◌, ℕ, zero, suc, true, false, Some, List, [], ◌∷◌, ◌++◌, refl, ap, arith}
-use Rattle.std.specs.Prelude.{◌==◌, nat_lt}
-use Rattle.std.proofs.lemmas.Bool.{false≢true}
-use Rattle.std.proofs.lemmas.Bool.Decides.{nat_tests}
-use Rattle.actor_net.specs.declared.choice.Choice.{Choice}
-use Rattle.actor_net.specs.Network.{queue_at, takes_first, is_enabled}
-use Rattle.two_machine.proofs.Machine.{Drops}
-use Rattle.two_machine.proofs.Tables.{System, Msg, Node, Is_switch, Is_ctrl, Is_inst, In_packet, In_start, In_end, node_ready}
-use Rattle.two_machine.proofs.View.{World, net, read}
-use Rattle.two_machine.proofs.Labels.{IsSelected, Label, Labels}
-use Rattle.actor_net.proofs.WeightLaws.{Each}
-use Rattle.two_machine.proofs.Places.{Place, In, Cs, Aw, Bw, Sc, Ac, Bc, Sa, Ca, Sb, Cb, choice, waits, with_waits, comes}
-use Rattle.two_machine.proofs.Puts.{result}
+use Rattle.two_machine.proofs.Words.{◌≡◌, ◌≢◌, ℕ, suc, true, false, Some, List, [], ◌∷◌, ◌++◌, refl, ap, arith, ◌==◌, false≢true, nat_tests, Choice}
+use Rattle.two_machine.proofs.Words.{is_enabled, Drops, System, Msg, Node, Is_switch, Is_ctrl, Is_inst, In_packet, In_start, In_end, node_ready, World, net}
+use Rattle.two_machine.proofs.Words.{read, IsSelected, Label, Labels, Each, Place, In, Cs, Aw, Bw, Sc, Ac, Bc, Sa, Ca, Sb, Cb, choice, waits, with_waits}
+use Rattle.two_machine.proofs.Words.{comes, result}
+use Rattle.std.proofs.Common.{zero}
+use Rattle.std.specs.Prelude.{nat_lt}
+use Rattle.actor_net.specs.Network.{queue_at, takes_first}
 use Rattle.two_machine.proofs.Arrivals.{coming, Ready}
 
 module _ {U T C R O : Type 0} (S : System U T C R O) where
@@ -49,17 +43,12 @@ module _ {U T C R O : Type 0} (S : System U T C R O) where
   finds v zero (suc (suc zero)) on = by_link v Aw (Is_switch v.sw) v.aw refl on (λ _. tt)
   finds v zero (suc (suc (suc zero))) on = by_link v Bw (Is_switch v.sw) v.bw refl on (λ _. tt)
   finds v (suc zero) zero on = by_link v Sc (Is_ctrl v.ct) v.sc refl on (λ _. tt)
-  finds v (suc zero) (suc zero) on = absurd (false≢true on)
   finds v (suc zero) (suc (suc zero)) on = by_link v Ac (Is_ctrl v.ct) v.ac refl on (λ _. tt)
   finds v (suc zero) (suc (suc (suc zero))) on = by_link v Bc (Is_ctrl v.ct) v.bc refl on (λ _. tt)
   finds v (suc (suc zero)) zero on = by_link v Sa (Is_inst 0 v.a) v.sa refl on (λ _. tt)
   finds v (suc (suc zero)) (suc zero) on = by_link v Ca (Is_inst 0 v.a) v.ca refl on (λ _. tt)
-  finds v (suc (suc zero)) (suc (suc zero)) on = absurd (false≢true on)
-  finds v (suc (suc zero)) (suc (suc (suc zero))) on = absurd (false≢true on)
   finds v (suc (suc (suc zero))) zero on = by_link v Sb (Is_inst 1 v.b) v.sb refl on (λ _. tt)
   finds v (suc (suc (suc zero))) (suc zero) on = by_link v Cb (Is_inst 1 v.b) v.cb refl on (λ _. tt)
-  finds v (suc (suc (suc zero))) (suc (suc zero)) on = absurd (false≢true on)
-  finds v (suc (suc (suc zero))) (suc (suc (suc zero))) on = absurd (false≢true on)
   finds v zero (suc (suc (suc (suc p)))) on =
       let no_link = far p in
       let port = not_zero p in
@@ -74,7 +63,7 @@ module _ {U T C R O : Type 0} (S : System U T C R O) where
   finds v (suc (suc (suc zero))) (suc (suc (suc (suc p)))) on =
       let no_link = far p in
       nothing v 3 (suc (suc (suc (suc p)))) (Is_inst 1 v.b) (queue_at (net v) (record { node = 3; port = suc (suc (suc (suc p))) })) (rw no_link refl) on
-  finds v (suc (suc (suc (suc k)))) p on = absurd (false≢true on)
+  finds v x p on = absurd (false≢true on)
 
   -- the labels of what is taken, and of what is left
   left_standing : (pl at : Place) (v : World T C O) (x : Msg C) (rest : List (Msg C)) → Each (Label S at) (waits S at (with_waits S pl (x ∷ rest) v))
@@ -114,10 +103,6 @@ module _ {U T C R O : Type 0} (S : System U T C R O) where
   pub rule_there : (pl : Place) (v : World T C O) (xs : List (Msg C)) → (with_waits S pl xs v).b.rule ≢ Drops → v.b.rule ≢ Drops
   rule_there In v xs h = h
   rule_there pl v xs h = h
-
-  pub ready_there : (pl : Place) (v : World T C O) (x : Msg C) (xs : List (Msg C)) → Ready S pl (with_waits S pl xs v) x → Ready S pl v x
-  ready_there In v x xs h = h
-  ready_there pl v x xs h = tt
 
   -- the packets that still stand in the input
   pub left_in : (pl : Place) (v : World T C O) (x : Msg C) (xs : List (Msg C)) → Label S pl x

@@ -1,9 +1,5 @@
 -- The theorem of a two-phase update, of every run from a start.
-use Rattle.std.proofs.Common.{◌<◌, ℕ, List, ◌++◌, arith}
-use Rattle.actor_net.specs.declared.choice.Choice.{Choice}
-use Rattle.actor_net.specs.Network.{Network}
-use Rattle.two_machine.proofs.Stages.{Rises}
-use Rattle.two_machine.proofs.Tables.{System, Laws, Msg, Note, Node}
+use Rattle.two_machine.proofs.Words.{◌<◌, ℕ, List, ◌++◌, arith, Choice, Network, Rises, System, Laws, Msg, Note, Node}
 use Rattle.two_machine.proofs.Promises.{LeadsTo, Published}
 use Rattle.two_machine.proofs.EveryRun.{every}
 use Rattle.two_machine.proofs.CompleteRun.{complete}

@@ -1,20 +1,18 @@
 -- What is seen of the message that is taken, at each place: a move of the machine, or nothing.
-use Rattle.std.proofs.Common.{◌≡◌, ℕ, Bool, true, false, Option, Some, None, List, [], ◌∷◌, ◌++◌, refl, ◌∙◌}
-use Rattle.two_machine.proofs.Machine.{State, Frame, Move, Begin, End_comes, Arrive, Take_sa, Take_pass, Take_plain, Take_sc, Take_forward, Take_cs, Take_ca}
-use Rattle.two_machine.proofs.Machine.{Take_cb, Take_event, Take_ac, Take_seen, Take_bc, Idles, moved}
+use Rattle.two_machine.proofs.Words.{◌≡◌, ℕ, Bool, true, false, Option, Some, None, List, [], ◌∷◌, ◌++◌, refl, ◌∙◌, State, Frame, Move, Begin, End_comes}
+use Rattle.two_machine.proofs.Words.{Arrive, Take_sa, Take_pass, Take_plain, Take_sc, Take_forward, Take_cs, Take_ca, Take_cb, Take_event, Take_ac, Take_seen}
+use Rattle.two_machine.proofs.Words.{Take_bc, Idles, System, Laws, Msg, In_packet, In_start, In_end, Start, End, Copied, Laid, Forward, Lay, Finish, Carry}
+use Rattle.two_machine.proofs.Words.{Pass, Stop, Enable, Get, Delete, Restore, Fence, Enabled, Chunks, Deleted, Restored, Event, Seen, Fenced, Final, Credit}
+use Rattle.two_machine.proofs.Words.{has_room, World, Observer, read, those, starts, frame, own, inside, IsTaken, item, view, Label, Place, In, Cs, Aw, Bw, Sc}
+use Rattle.two_machine.proofs.Words.{Ac, Bc, Sa, Ca, Sb, Cb, with_waits, comes, result, Allowed, copied}
+use Rattle.two_machine.proofs.Machine.{moved}
 use Rattle.two_machine.proofs.Laws.{append_nil_left, append_nil_right}
-use Rattle.two_machine.proofs.Tables.{System, Laws, Msg, In_packet, In_start, In_end, Start, End, Copied, Laid, Forward, Lay, Finish, Carry, Pass, Stop}
-use Rattle.two_machine.proofs.Tables.{Enable, Get, Delete, Restore, Fence, Enabled, Chunks, Deleted, Restored, Event, Seen, Fenced, Final, Credit, has_room}
-use Rattle.two_machine.proofs.View.{World, Observer, read, those, starts, frame, own, inside, IsTaken, item, view}
-use Rattle.two_machine.proofs.Labels.{Label}
 use Rattle.two_machine.proofs.ControllerSees.{reads, step_seen, start_seen, enabled_seen, chunks_seen, deleted_seen, restored_seen, event_seen, laid_seen}
 use Rattle.two_machine.proofs.ControllerSees.{copied_seen, fenced_seen, end_seen, told_seen, final_seen}
-use Rattle.two_machine.proofs.InstanceSees.{carry_a, other_a, carry_b, pass_b, fence_b, enable_a, get_a, delete_a, enable_b, restore_b, stop_a, stop_b}
-use Rattle.two_machine.proofs.InstanceSees.{arrive, arrive_other, forward_s, lay_s, finish_s, credit_s, end_s}
-use Rattle.two_machine.proofs.Places.{Place, In, Cs, Aw, Bw, Sc, Ac, Bc, Sa, Ca, Sb, Cb, with_waits, comes}
-use Rattle.two_machine.proofs.Puts.{result}
+use Rattle.two_machine.proofs.InstanceSees.{carry_a, other_a, carry_b, pass_b, fence_b, enable_a, get_a, delete_a, enable_b, restore_b, stop_a, stop_b, arrive}
+use Rattle.two_machine.proofs.InstanceSees.{arrive_other, forward_s, lay_s, finish_s, credit_s, end_s}
 use Rattle.two_machine.proofs.StageFacts.{Knows}
-use Rattle.two_machine.proofs.Shapes.{Allowed, brings, copied}
+use Rattle.two_machine.proofs.Shapes.{brings}
 
 abbrev pub moved_by : {R : Type 0} → Frame R → Option Move → State R → State R
 moved_by f None x = x

@@ -1,22 +1,17 @@
 -- Along every run a unit that the filter doesn't take stays at A: its packets go there in order, and its record is live there alone.
-use Rattle.std.proofs.Common.{◌≡◌, ℕ, Bool, true, false, None, List, [], ◌∷◌, ◌++◌, refl, sym, ap, ◌∙◌, append_assoc, append-nil}
-use Rattle.std.specs.Prelude.{if◌then◌else◌, ◌==◌}
-use Rattle.two_machine.proofs.Machine.{Free, Target, To_a, To_both, To_b, stepped, folded}
+use Rattle.two_machine.proofs.Words.{◌≡◌, ℕ, Bool, true, false, None, List, [], ◌∷◌, ◌++◌, refl, sym, ap, ◌∙◌, append_assoc, append-nil, if◌then◌else◌, ◌==◌}
+use Rattle.two_machine.proofs.Words.{Free, Target, To_a, To_both, To_b, stepped, folded, System, Laws, Msg, Note, Ctrl, Inst, Step, In_packet, In_start}
+use Rattle.two_machine.proofs.Words.{In_end, Forward, Lay, Finish, Carry, Pass, Stop, Enable, Get, Delete, Restore, Fence, Credit, Arrived, goes, switch_step}
+use Rattle.two_machine.proofs.Words.{processed, all_processed, inst_step, ctrl_step, takes_in, World, read, read-append, those, those-append, carries, arrived}
+use Rattle.two_machine.proofs.Words.{ran, Nobody, view, Place, Ca, Cb, Cs, In, Sa, Sb, Aw, Bw, Sc, Ac, Bc, with_waits, IsSelected, OnBack, Label, sent}
+use Rattle.two_machine.proofs.Words.{put_switch, put_a, put_b, result, Each}
 use Rattle.two_machine.proofs.Laws.{folded-append}
 use Rattle.two_machine.proofs.Tables
-use Rattle.two_machine.proofs.Tables.{System, Laws, Msg, Note, Ctrl, Inst, Step, In_packet, In_start, In_end, Forward, Lay, Finish, Carry, Pass, Stop, Enable}
-use Rattle.two_machine.proofs.Tables.{Get, Delete, Restore, Fence, Credit, Arrived, goes, switch_step, processed, all_processed, inst_step, ctrl_step}
-use Rattle.two_machine.proofs.Tables.{takes_in}
-use Rattle.two_machine.proofs.View.{World, read, read-append, those, those-append, carries, arrived, ran, Nobody, view}
-use Rattle.two_machine.proofs.Places.{Place, Ca, Cb, Cs, In, Sa, Sb, Aw, Bw, Sc, Ac, Bc, with_waits}
-use Rattle.two_machine.proofs.Labels.{IsSelected, OnBack, Label}
 use Rattle.two_machine.proofs.Rows.{Carried, Runs, Hands_out, Held, carried}
-use Rattle.two_machine.proofs.Puts.{sent, put_switch, put_a, put_b, result}
 use Rattle.two_machine.proofs.StageFacts.{Knows}
 use Rattle.two_machine.proofs.Arrivals.{Ready, inst_notes}
 use Rattle.two_machine.proofs.Outputs.{mine, its_frame, told, due, record_by, IsRight, right_more, right_none, right_one, told_other, due_other, folded_other}
 use Rattle.two_machine.proofs.Outputs.{other_cover, each_other, ran_fence}
-use Rattle.actor_net.proofs.WeightLaws.{Each}
 use Rattle.two_machine.proofs.StepLabels.{CtrlOk, ctrl_ok, gives}
 
 module _ {U T C R O : Type 0} (S : System U T C R O) (laws : Laws S) (u : U) (not_its : S.takes u ≡ false) where

@@ -1,17 +1,10 @@
 -- Each message that is taken leaves a lighter world.
-use Rattle.std.proofs.Common.{◌≡◌, ◌≤◌, ℕ, ◌+◌, true, false, List, [], ◌∷◌, ◌++◌, length, refl, arith}
-use Rattle.std.specs.Prelude.{if◌then◌else◌, ◌==◌}
-use Rattle.std.proofs.lemmas.List.{length_push}
-use Rattle.two_machine.proofs.Machine.{Free, Target, To_a}
-use Rattle.two_machine.proofs.Tables.{System, Msg, Switch, Ctrl, Inst, Step, In_packet, In_start, In_end, Forward, Lay, Finish, Carry, Pass, Stop, Enable}
-use Rattle.two_machine.proofs.Tables.{Get, Delete, Restore, Fence, Event, Fenced, Final, Credit, has_room, goes, switch_step, processed, all_processed}
-use Rattle.two_machine.proofs.Tables.{inst_step, ctrl_step}
-use Rattle.two_machine.proofs.View.{World}
-use Rattle.two_machine.proofs.Places.{Place, Bc, Ca, Cb, Cs, In, Sa, Sb, Sc, Aw, Bw, Ac, with_waits}
-use Rattle.two_machine.proofs.Labels.{OnBack, Label}
+use Rattle.two_machine.proofs.Words.{◌≡◌, ◌≤◌, ℕ, ◌+◌, true, false, List, [], ◌∷◌, ◌++◌, length, refl, arith, if◌then◌else◌, ◌==◌, length_push, Free, Target}
+use Rattle.two_machine.proofs.Words.{To_a, System, Msg, Switch, Ctrl, Inst, Step, In_packet, In_start, In_end, Forward, Lay, Finish, Carry, Pass, Stop, Enable}
+use Rattle.two_machine.proofs.Words.{Get, Delete, Restore, Fence, Event, Fenced, Credit, has_room, goes, switch_step, processed, all_processed}
+use Rattle.two_machine.proofs.Words.{inst_step, ctrl_step, World, Place, Bc, Ca, Cb, Cs, In, Sa, Sb, Sc, Aw, Bw, Ac, with_waits, OnBack, Label, sent}
+use Rattle.two_machine.proofs.Words.{put_switch, put_ctrl, put_a, put_b, result, weigh, weigh-append}
 use Rattle.two_machine.proofs.Rows.{kind, Carried, Runs, Hands_out, Held, carried}
-use Rattle.two_machine.proofs.Puts.{sent, put_switch, put_ctrl, put_a, put_b, result}
-use Rattle.actor_net.proofs.WeightLaws.{weigh, weigh-append}
 use Rattle.two_machine.proofs.Weights.{w_in, w_sa, w_sb, w_cs, w_two, w_one, w_ac, w_ctrl, weight, Costs, allowed, step_costs}
 
 module _ {U T C R O : Type 0} (S : System U T C R O) where
@@ -84,9 +77,8 @@ module _ {U T C R O : Type 0} (S : System U T C R O) where
 
   carry_a : {i : Inst T} {p : ℕ} {did : Step S (Inst T)} → Carried S 0 i p did
       → length did.node.held + weigh w_one (sent 0 did.sends) + weigh w_ac (sent 1 did.sends) + 1 ≤ length i.held + 6
-  carry_a (Runs free) = omega arith
-  carry_a (Hands_out drops covers) = omega arith
   carry_a {i} {p} (Held covers) = omega (arith, length_push i.held p)
+  carry_a x = omega arith
 
   sa_costs : (i : Inst T) (m : Msg C) → Label S Sa m
       → length (inst_step S 0 i m).node.held + weigh w_one (sent 0 (inst_step S 0 i m).sends) + weigh w_ac (sent 1 (inst_step S 0 i m).sends) + 1
@@ -138,17 +130,14 @@ module _ {U T C R O : Type 0} (S : System U T C R O) where
 
   ac_allowed : (m : Msg C) → allowed S (kind 2 m) + 1 ≡ w_ac m
   ac_allowed (Event p) = refl
-  ac_allowed Final = refl
   ac_allowed m = refl
 
   bc_allowed : (m : Msg C) → Label S Bc m → allowed S (kind 3 m) ≡ 0
   bc_allowed (Event p) l = absurd l
-  bc_allowed Final l = refl
   bc_allowed m l = refl
 
   sc_allowed : (m : Msg C) → Label S Sc m → allowed S (kind 0 m) ≡ 0
   sc_allowed (Event p) l = absurd l
-  sc_allowed Final l = refl
   sc_allowed m l = refl
 
   -- each message taken makes the world lighter

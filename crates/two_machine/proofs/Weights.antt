@@ -1,15 +1,10 @@
 -- What each message and the controller weigh, and what a step of the controller costs.
-use Rattle.std.proofs.Common.{◌≡◌, ◌≤◌, ℕ, ◌+◌, ◌*◌, Bool, true, false, List, [], ◌∷◌, ◌++◌, length, refl, ap, ◌∙◌, arith}
-use Rattle.std.specs.Prelude.{if◌then◌else◌, ◌==◌}
-use Rattle.std.proofs.lemmas.List.{length_push}
-use Rattle.two_machine.proofs.Machine.{Phase, Idle, Freezing, Getting, Deleting, Putting, Holding, Laying, Waiting, Turning, Settling, Ending, Over}
-use Rattle.two_machine.proofs.Tables.{System, Msg, Ctrl, Step, In_packet, Forward, Lay, Finish, Carry, Pass, Event, Final, forwards, ctrl_row, soon_at}
-use Rattle.two_machine.proofs.Tables.{finishes, ctrl_step}
-use Rattle.two_machine.proofs.View.{World, read-append}
-use Rattle.two_machine.proofs.Puts.{to_one, sent}
-use Rattle.two_machine.proofs.Rows.{Kind, Cell, Last, kind, Row, Freezes, Gets, Deletes, Restores, Holds, Lays_low, Waits, Lays_high, Settles, Fences}
-use Rattle.two_machine.proofs.Rows.{Is_over, None_came, Stores, Finishes, Not_yet, Asks, row, soon_row, finish_row}
-use Rattle.actor_net.proofs.WeightLaws.{weigh, weigh-append}
+use Rattle.two_machine.proofs.Words.{◌≡◌, ◌≤◌, ℕ, ◌+◌, ◌*◌, Bool, true, false, List, [], ◌∷◌, ◌++◌, length, refl, ap, ◌∙◌, arith, if◌then◌else◌, ◌==◌}
+use Rattle.two_machine.proofs.Words.{length_push, Phase, Idle, Freezing, Getting, Deleting, Putting, Holding, Laying, Waiting, Turning, Settling, Ending, Over}
+use Rattle.two_machine.proofs.Words.{System, Msg, Ctrl, Step, In_packet, Forward, Lay, Finish, Carry, Pass, Event, Final, forwards, ctrl_row, soon_at}
+use Rattle.two_machine.proofs.Words.{finishes, ctrl_step, World, read-append, to_one, sent, weigh, weigh-append}
+use Rattle.two_machine.proofs.Rows.{Kind, Cell, Last, kind, Row, Freezes, Gets, Deletes, Restores, Holds, Lays_low, Waits, Lays_high, Settles, Fences, Is_over}
+use Rattle.two_machine.proofs.Rows.{None_came, Stores, Finishes, Not_yet, Asks, row, soon_row, finish_row}
 
 -- each message weighs one more than what it can lead to
 abbrev pub w_in : {C : Type 0} → Msg C → ℕ

@@ -13,8 +13,7 @@ module _ {X Y : Type 0} (P : X → Y → Type 0) where
   pub alike-append : (xs : List X) (ys : List Y) (xs' : List X) (ys' : List Y) → Alike P xs ys → Alike P xs' ys' → Alike P (xs ++ xs') (ys ++ ys')
   alike-append [] [] xs' ys' h k = k
   alike-append (x ∷ xs) (y ∷ ys) xs' ys' h k = (h.0, alike-append xs ys xs' ys' h.1 k)
-  alike-append [] (y ∷ ys) xs' ys' h k = absurd h
-  alike-append (x ∷ xs) [] xs' ys' h k = absurd h
+  alike-append z w xs' ys' h k = absurd h
 
   pub alike-replicate : (k : ℕ) (x : X) (y : Y) → P x y → Alike P (replicate k x) (replicate k y)
   alike-replicate zero x y p = tt
@@ -24,27 +23,23 @@ module _ {X Y : Type 0} (P : X → Y → Type 0) where
   alike-set [] [] i x y h p = tt
   alike-set (a ∷ xs) (b ∷ ys) zero x y h p = (p, h.1)
   alike-set (a ∷ xs) (b ∷ ys) (suc i) x y h p = (h.0, alike-set xs ys i x y h.1 p)
-  alike-set [] (b ∷ ys) i x y h p = absurd h
-  alike-set (a ∷ xs) [] i x y h p = absurd h
+  alike-set z w i x y h p = absurd h
 
   pub alike-at : (xs : List X) (ys : List Y) (i : ℕ) (x : X) (y : Y) → Alike P xs ys → P x y → P (slice_index_or xs i x) (slice_index_or ys i y)
   alike-at [] [] i x y h p = p
   alike-at (a ∷ xs) (b ∷ ys) zero x y h p = h.0
   alike-at (a ∷ xs) (b ∷ ys) (suc i) x y h p = alike-at xs ys i x y h.1 p
-  alike-at [] (b ∷ ys) i x y h p = absurd h
-  alike-at (a ∷ xs) [] i x y h p = absurd h
+  alike-at z w i x y h p = absurd h
 
   pub alike-length : (xs : List X) (ys : List Y) → Alike P xs ys → length xs ≡ length ys
   alike-length [] [] h = refl
   alike-length (a ∷ xs) (b ∷ ys) h = ap suc (alike-length xs ys h.1)
-  alike-length [] (b ∷ ys) h = absurd h
-  alike-length (a ∷ xs) [] h = absurd h
+  alike-length x y h = absurd h
 
   pub alike-rest : (xs : List X) (ys : List Y) → Alike P xs ys → Alike P (drop 1 xs) (drop 1 ys)
   alike-rest [] [] h = tt
   alike-rest (a ∷ xs) (b ∷ ys) h = h.1
-  alike-rest [] (b ∷ ys) h = absurd h
-  alike-rest (a ∷ xs) [] h = absurd h
+  alike-rest x y h = absurd h
 
   -- related items, or none in both
   abbrev pub BothOrNone : Option X → Option Y → Type 0
@@ -57,12 +52,10 @@ module _ {X Y : Type 0} (P : X → Y → Type 0) where
   alike-get [] [] i h = tt
   alike-get (a ∷ xs) (b ∷ ys) zero h = h.0
   alike-get (a ∷ xs) (b ∷ ys) (suc i) h = alike-get xs ys i h.1
-  alike-get [] (b ∷ ys) i h = absurd h
-  alike-get (a ∷ xs) [] i h = absurd h
+  alike-get x y i h = absurd h
 
   pub alike-all : (p : X → Bool) (q : Y → Bool) → ((x : X) (y : Y) → P x y → p x ≡ q y) → (xs : List X) (ys : List Y) → Alike P xs ys
       → list_all p xs ≡ list_all q ys
   alike-all p q same [] [] h = refl
   alike-all p q same (a ∷ xs) (b ∷ ys) h = let one = same a b h.0 in let rest = alike-all p q same xs ys h.1 in rw (one, rest) refl
-  alike-all p q same [] (b ∷ ys) h = absurd h
-  alike-all p q same (a ∷ xs) [] h = absurd h
+  alike-all p q same x y h = absurd h

@@ -1,20 +1,10 @@
 -- A real world and the reduced one that shows it: each choice is enabled in both or in neither, and leads to such worlds again.
-use Rattle.std.proofs.Common.{◌≡◌, ℕ, ◌+◌, ◌*◌, true, false, Option, Some, None, List, [], ◌∷◌, ◌++◌, length, drop, sym, ap, subst, ◌∙◌, refl}
-use Rattle.std.specs.Prelude.{if◌then◌else◌, ◌==◌, ◌&&◌, nat_lt, slice_get, slice_set, slice_index_or}
-use Rattle.std.specs.List.{list_all}
-use Rattle.nf_function.specs.declared.output.Output.{Output}
-use Rattle.actor_net.specs.declared.choice.Choice.{Choice}
-use Rattle.actor_net.specs.Network.{Network, is_input, on_link, queue_at, takes_first, is_enabled, without_first}
-use Rattle.actor_net.specs.Network.{reaches, put_on, links_after, after, world_after_step, world_next, is_done}
-use Rattle.two_phase.specs.declared.msg.TwoMsg.{TwoMsg}
-use Rattle.two_phase.specs.declared.note.TwoNote.{TwoNote}
-use Rattle.two_phase.specs.declared.node.TwoNode.{TwoNode}
-use Rattle.two_phase.specs.declared.node.TwoNode.TheVariants.{Switch, Ctrl as Controller, Instance}
-use Rattle.instance_worker.specs.declared.instance.Instance.{Instance as InstanceState}
-use Rattle.two_phase.specs.Parts.{SwitchState, ControllerState}
-use Rattle.two_phase.specs.Tables.{Step, node_step, node_ready, node_ended}
+use Rattle.two_phase.proofs.Words.{◌≡◌, ℕ, ◌+◌, ◌*◌, true, false, Option, Some, None, List, [], ◌∷◌, ◌++◌, length, drop, sym, ap, subst, ◌∙◌, refl}
+use Rattle.two_phase.proofs.Words.{if◌then◌else◌, ◌==◌, ◌&&◌, nat_lt, slice_get, slice_set, slice_index_or, list_all, Output, Choice, Network, queue_at}
+use Rattle.two_phase.proofs.Words.{is_enabled, world_next, is_done, TwoMsg, TwoNote, TwoNode, Switch, Controller, Instance, InstanceState, SwitchState}
+use Rattle.two_phase.proofs.Words.{ControllerState, Step, node_step, node_ready, node_ended, read, read-append}
+use Rattle.actor_net.specs.Network.{is_input, on_link, takes_first, without_first, reaches, put_on, links_after, after, world_after_step}
 use Rattle.two_machine.proofs.Tables as core
-use Rattle.two_machine.proofs.View.{read, read-append}
 use Rattle.two_phase.proofs.AlikeLists.{Alike, alike-append, alike-set, alike-at, alike-length, alike-rest, BothOrNone, alike-get, alike-all}
 use Rattle.two_phase.proofs.RecordLaws.{Sound, Setting, sys}
 use Rattle.two_phase.proofs.Outlines.{outline_note, Shown, Sends, InstanceShows, ControllerShows, SwitchShows}
@@ -64,8 +54,7 @@ module _ {R : Type 0} (setting : Setting R) where
   delivered_alike n from [] [] ls ms s h = h
   delivered_alike n from (x ∷ xs) (y ∷ ys) ls ms s h =
       delivered_alike n from xs ys (put_on n from x ls) (put_on n from y ms) s.1 (put_alike n from x.0 y.0 x.1 y.1 ls ms s.0.0 s.0.1 h)
-  delivered_alike n from [] (y ∷ ys) ls ms s h = absurd s
-  delivered_alike n from (x ∷ xs) [] ls ms s h = absurd s
+  delivered_alike n from z w ls ms s h = absurd s
 
 module _ {F R : Type 0} (setting : Setting R) where
   open setting use {f}
@@ -165,18 +154,16 @@ module _ {F R : Type 0} (setting : Setting R) where
     ready_same : (x : TwoNode F R) (y : core.Node (Sound f) (Sound f)) (m : TwoMsg) (n : core.Msg (Sound f)) → NodeShows x y → Shown setting m n
         → node_ready x m ≡ core.node_ready (sys setting) y n
     ready_same x y m n (Switches {s} {t} k) p = takes_same setting s t m n k p
-    ready_same x y m n (Controllers k) p = refl
-    ready_same x y m n (Instances k) p = refl
+    ready_same x y m n z p = refl
 
     first_same : (c : Choice) (o : Option (TwoNode F R)) (q : Option (core.Node (Sound f) (Sound f))) (xs : List TwoMsg) (ys : List (core.Msg (Sound f)))
         → BothOrNone NodeShows o q → AreShown setting xs ys → takes_first node_ready c o xs ≡ takes_first (core.node_ready (sys setting)) c q ys
-    first_same c None None xs ys k l = refl
-    first_same c (Some x) (Some y) [] [] k l = refl
     first_same c (Some x) (Some y) (m ∷ xs) (n ∷ ys) k l = ap (λ b. if is_input c then b else true) (ready_same x y m n k l.0)
     first_same c (Some x) (Some y) [] (n ∷ ys) k l = absurd l
     first_same c (Some x) (Some y) (m ∷ xs) [] k l = absurd l
     first_same c None (Some y) xs ys k l = absurd k
     first_same c (Some x) None xs ys k l = absurd k
+    first_same c z w xs ys k l = refl
 
     pub enabled_same : (c : Choice) → is_enabled node_ready w c ≡ is_enabled (core.node_ready (sys setting)) v c
     enabled_same c = first_same c (slice_get w.nodes c.node) (slice_get v.nodes c.node) (queue_at w c) (queue_at v c) (node_at c) (waits_alike c)
@@ -185,8 +172,6 @@ module _ {F R : Type 0} (setting : Setting R) where
     from_alike : (c : Choice) (o : Option (TwoNode F R)) (q : Option (core.Node (Sound f) (Sound f))) (xs : List TwoMsg) (ys : List (core.Msg (Sound f)))
         → BothOrNone NodeShows o q → AreShown setting xs ys → IsProper c ys
         → Outlined (world_after_step (node_step f) w c o xs) (world_after_step (core.node_step (sys setting)) v c q ys)
-    from_alike c None None xs ys k l e = h
-    from_alike c (Some x) (Some y) [] [] k l e = h
     from_alike c (Some x) (Some y) (m ∷ xs) (n ∷ ys) k l e =
         later (without_first w c) (without_first v c) (less_alike c) c.node (node_step f x c.port m) (core.node_step (sys setting) y c.port n)
         (step_shows x y c.port m n k l.0 e)
@@ -194,6 +179,7 @@ module _ {F R : Type 0} (setting : Setting R) where
     from_alike c (Some x) (Some y) (m ∷ xs) [] k l e = absurd l
     from_alike c None (Some y) xs ys k l e = absurd k
     from_alike c (Some x) None xs ys k l e = absurd k
+    from_alike c z w xs ys k l e = h
 
     pub taken_alike : (c : Choice) → IsProper c (queue_at v c) → Outlined (world_next (node_step f) w c) (world_next (core.node_step (sys setting)) v c)
     taken_alike c e = from_alike c (slice_get w.nodes c.node) (slice_get v.nodes c.node) (queue_at w c) (queue_at v c) (node_at c) (waits_alike c) e

@@ -1,21 +1,14 @@
 -- The step of the real controller is that of the reduced one.
-use Rattle.std.proofs.Common.{◌≡◌, ℕ, zero, suc, Bool, true, false, Option, Some, None, List, [], ◌∷◌, ◌++◌, refl, sym, ap, subst, ◌∙◌, arith}
-use Rattle.std.specs.Prelude.{if◌then◌else◌, ◌==◌, ◌&&◌, ◌||◌, not}
-use Rattle.std.proofs.lemmas.Bool.{false≢true}
-use Rattle.std.proofs.lemmas.Bool.Decides.{nat_tests}
-use Rattle.packet_pool.specs.Pool.{FullCell}
+use Rattle.two_phase.proofs.Words.{◌≡◌, ℕ, zero, suc, Bool, true, false, Option, Some, List, [], ◌∷◌, ◌++◌, refl, sym, ap, subst, ◌∙◌, arith}
+use Rattle.two_phase.proofs.Words.{if◌then◌else◌, ◌==◌, ◌&&◌, ◌||◌, not, false≢true, nat_tests, FullCell, TwoMsg, ControllerState, Step, still, the_update}
+use Rattle.two_phase.proofs.Words.{forward_messages, controller_row, read, read-append}
 use Rattle.nf_msgs.specs.declared.msg.Msg.TheVariants as msg
-use Rattle.two_phase.specs.declared.msg.TwoMsg.{TwoMsg}
 use Rattle.two_phase.specs.declared.msg.TwoMsg.TheVariants as two
 use Rattle.two_phase.specs.declared.note.TwoNote.TheVariants as note
-use Rattle.two_phase.specs.Parts.{ControllerState}
-use Rattle.two_phase.specs.Tables.{Step, still, tell_step, and_then, the_update, forward_messages, on_start, on_enabled}
-use Rattle.two_phase.specs.Tables.{on_chunks, on_deleted, on_restored, is_storing, on_laid, on_copied, on_fenced}
-use Rattle.two_phase.specs.Tables.{on_final, controller_row, are_same, soon, is_over, finish_step, controller_step}
-use Rattle.two_machine.proofs.Machine.{Phase, Idle, Freezing, Getting, Deleting, Putting}
-use Rattle.two_machine.proofs.Machine.{Holding, Laying, Waiting, Turning, Settling, Ending, Over, same}
+use Rattle.two_phase.specs.Tables.{tell_step, and_then, on_start, on_enabled, on_chunks, on_deleted, on_restored, is_storing, on_laid, on_copied, on_fenced}
+use Rattle.two_phase.specs.Tables.{on_final, are_same, soon, is_over, finish_step, controller_step}
+use Rattle.two_machine.proofs.Machine.{Phase, Idle, Freezing, Getting, Deleting, Putting, Holding, Laying, Waiting, Turning, Settling, Ending, Over, same}
 use Rattle.two_machine.proofs.Tables as core
-use Rattle.two_machine.proofs.View.{read, read-append}
 use Rattle.two_phase.proofs.AlikeLists.{Alike, alike-append}
 use Rattle.two_phase.proofs.RecordLaws.{Sound, Setting, sys, chunks, no_chunks}
 use Rattle.two_phase.proofs.Outlines
@@ -70,8 +63,7 @@ module _ {R : Type 0} (setting : Setting R) where
         → Sends setting (forward_messages cells) (core.forwards (sys setting) ns)
     all_forward [] [] g = tt
     all_forward (cell ∷ cells) (n ∷ ns) g = ((refl, Outlines.Forward cell n g.0), all_forward cells ns g.1)
-    all_forward [] (n ∷ ns) g = absurd g
-    all_forward (cell ∷ cells) [] g = absurd g
+    all_forward x y g = absurd g
 
     enabled_follows : (ph : Phase) → FollowsController (on_enabled (phase_shown ph) c) (core.on_enabled (sys setting) ph d)
     enabled_follows Freezing = follows cells refl g ((refl, Outlines.Get), tt) refl
@@ -125,14 +117,13 @@ module _ {R : Type 0} (setting : Setting R) where
     fenced_follows ph = still_follows
 
     final_follows : (port : ℕ) → is_proper {C = Sound f} port core.Final ≡ true → FollowsController (on_final c port) (core.on_final (sys setting) port d)
-    final_follows zero e = absurd (false≢true e)
-    final_follows (suc zero) e = absurd (false≢true e)
     final_follows (suc (suc zero)) e = follows cells refl g ((refl, Outlines.Finish 1 refl), tt) refl
     final_follows (suc (suc (suc zero))) e = follows cells refl g tt refl
     final_follows (suc (suc (suc (suc k)))) e = absurd (false≢true (sym (far k) ∙ e))
       where
         far : (k : ℕ) → (suc (suc (suc (suc k))) == 2) || (suc (suc (suc (suc k))) == 3) ≡ false
         far k = grind (arith, nat_tests)
+    final_follows x e = absurd (false≢true e)
 
     row_follows : (port : ℕ) (x : TwoMsg) (y : core.Msg (Sound f)) → Shown setting x y → is_proper port y ≡ true
         → FollowsController (controller_row c port x) (core.ctrl_row (sys setting) d port y)
@@ -155,8 +146,7 @@ module _ {R : Type 0} (setting : Setting R) where
 
     same_is : (o p : Option ℕ) → are_same o p ≡ same o p
     same_is (Some x) (Some y) = refl
-    same_is (Some x) None = refl
-    same_is None p = refl
+    same_is z p = refl
 
     -- what follows as soon as it may
     soon_follows : (ph : Phase) → FollowsController (soon (phase_shown ph) c) (core.soon_at (sys setting) ph d)

@@ -1,31 +1,19 @@
 -- The step of a real instance is that of the reduced one.
-use Rattle.std.proofs.Common.{◌≡◌, ℕ, Bool, true, false, Option, Some, None, List, [], ◌∷◌, ◌++◌, map, refl, sym, ap, subst, ◌∙◌, append-nil}
-use Rattle.std.specs.Prelude.{if◌then◌else◌}
+use Rattle.two_phase.proofs.Words.{◌≡◌, ℕ, Bool, true, false, Option, Some, None, List, [], ◌∷◌, ◌++◌, map, refl, sym, ap, subst, ◌∙◌, if◌then◌else◌, matches}
+use Rattle.two_phase.proofs.Words.{flow_of, unit_at, output_for, without, newest_of, records_of, table_read, Action, Plain, Pass, EventRule, FullCell}
+use Rattle.two_phase.proofs.Words.{units_in, InstanceState, TwoMsg, Step, still, the_update, sent_inside, Rule, Free, Drops, Buffers, read, read-append}
+use Rattle.std.proofs.Common.{append-nil}
 use Rattle.std.specs.FinMap as finite
 use Rattle.std.proofs.lemmas.List.{map-append}
-use Rattle.flow_filter.specs.Filter.{matches}
-use Rattle.flow_filter.specs.Flow.{flow_of}
-use Rattle.nf_function.specs.Semantics.{unit_at, output_for}
-use Rattle.record_table.specs.Table.{without, newest_of}
-use Rattle.record_table.specs.Chunks.{are_good, records_of}
-use Rattle.record_table.proofs.MadeChunks.{table_read}
-use Rattle.event_filter.specs.declared.action.Action.{Action}
+use Rattle.record_table.specs.Chunks.{are_good}
 use Rattle.event_filter.specs.declared.action.Action.TheVariants as action
-use Rattle.event_filter.specs.declared.mark.Mark.TheVariants.{Plain, Pass}
-use Rattle.event_filter.specs.declared.rule.Rule.{Rule as EventRule}
 use Rattle.event_filter.specs.Rules as rules
-use Rattle.packet_pool.specs.Pool.{FullCell}
 use Rattle.nf_msgs.specs.declared.msg.Msg.TheVariants as msg
-use Rattle.nf_msgs.specs.Exports.{units_in}
-use Rattle.instance_worker.specs.declared.instance.Instance.{Instance as InstanceState}
 use Rattle.instance_worker.specs.Instance.{process_step, all_processed, carry_step, on_carry, on_fence, on_get, on_restore}
-use Rattle.two_phase.specs.declared.msg.TwoMsg.{TwoMsg}
 use Rattle.two_phase.specs.declared.msg.TwoMsg.TheVariants as two
 use Rattle.two_phase.specs.declared.note.TwoNote.TheVariants as note
-use Rattle.two_phase.specs.Tables.{Step, still, the_update, sent_inside, wrapped_step, with_told, inner_step}
-use Rattle.two_machine.proofs.Machine.{Rule, Free, Drops, Buffers}
+use Rattle.two_phase.specs.Tables.{wrapped_step, with_told, inner_step}
 use Rattle.two_machine.proofs.Tables as core
-use Rattle.two_machine.proofs.View.{read, read-append}
 use Rattle.two_phase.proofs.AlikeLists.{Alike, alike-append}
 use Rattle.two_phase.proofs.RecordLaws.{Sound, Setting, sys, chunks}
 use Rattle.two_phase.proofs.Outlines
@@ -180,8 +168,7 @@ module _ {F R : Type 0} (setting : Setting R) where
             ∙ ap (λ xs. xs ++ read outline_note (wrapped_step later).notes) one.notes
             ∙ ap (λ xs. core_first.notes ++ xs) rest.notes;
       }
-  all_follow index i j [] (n ∷ ns) h g = absurd g
-  all_follow index i j (cell ∷ cells) [] h g = absurd g
+  all_follow index i j x y h g = absurd g
 
   module _ (index : ℕ) (i : InstanceState F R) (j : core.Inst (Sound f)) (h : InstanceShows setting index i j) where
     -- the other messages
@@ -194,8 +181,7 @@ module _ {F R : Type 0} (setting : Setting R) where
 
     enabled : (act : Action) (r : Rule) → RulesShow setting i.rules r j.held → HasRule setting (rules.with_rule i.rules the_update filter act) act j.held
     enabled act Free k = let none = k.0 in let empty = k.1 in rw (none, empty) (record { cells = []; is = refl; genuine = tt })
-    enabled act Drops k = record { cells = k.cells; is = ap (λ rs. rules.with_rule rs the_update filter act) k.is; genuine = k.genuine }
-    enabled act Buffers k = record { cells = k.cells; is = ap (λ rs. rules.with_rule rs the_update filter act) k.is; genuine = k.genuine }
+    enabled act x k = record { cells = k.cells; is = ap (λ rs. rules.with_rule rs the_update filter act) k.is; genuine = k.genuine }
 
     enable_follows : (act : Action) (r : Rule) → RulesShow setting (rules.with_rule i.rules the_update filter act) r j.held
         → Follows index (inner_step f i (two.Inner (msg.Enable the_update filter act))) (core.inst_step (sys setting) index j (core.Enable r))

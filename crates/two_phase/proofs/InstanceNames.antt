@@ -1,11 +1,8 @@
 -- What the loop over the nodes leaves at its end: no node is left, or no name is.
-use Rattle.std.proofs.Common.{◌≡◌, ℕ, ◌<◌, ◌≤◌, List, [], ◌∷◌, ◌++◌, drop, length, arith, refl, sym, ap, ◌∙◌}
+use Rattle.two_phase.proofs.Words.{◌≡◌, ℕ, ◌<◌, ◌≤◌, List, [], ◌∷◌, ◌++◌, drop, length, arith, refl, sym, ap, ◌∙◌, texts_seen, TwoNode, named_instances}
 use Rattle.std.proofs.lemmas.List.{append-nil, drop_all}
 use Rattle.std.specs.Borrow.{Bor}
 use Rattle.report_lines.specs.Lines.{NamedInstance}
-use Rattle.report_lines.specs.Seen.{texts_seen}
-use Rattle.two_phase.specs.declared.node.TwoNode.{TwoNode}
-use Rattle.two_phase.specs.Report.{named_instances}
 
 -- without nodes there are no instances
 no_nodes : (F R : Type 0) (names : List (List ℕ)) → named_instances {F = F} {R = R} names [] ≡ []

@@ -1,3 +1,4 @@
+pub mod Words
 pub mod AlikeLists
 pub mod RecordLaws
 pub mod Outlines
@@ -7,7 +8,7 @@ pub mod ControllerFollows
 pub mod AlikeWorlds
 pub mod NumberedPackets
 pub mod RealRuns
-pub mod Words
+pub mod RealPromises
 pub mod Theorem
 pub mod OtherMessages
 pub mod PushedPackets

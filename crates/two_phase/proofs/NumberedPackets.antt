@@ -1,15 +1,12 @@
 -- The packets of an update by their numbers: each number finds its own packet, and what it finds fits its types.
-use Rattle.std.proofs.Common.{◌≡◌, ◌<◌, ◌^◌, ℕ, zero, suc, Some, List, [], ◌∷◌, ◌++◌, map, take, drop, refl, ap, ◌∙◌, arith}
-use Rattle.std.specs.Prelude.{◌==◌, find, unwrap_or}
+use Rattle.two_phase.proofs.Words.{◌≡◌, ◌<◌, ℕ, zero, suc, Some, List, [], ◌∷◌, ◌++◌, map, take, drop, refl, ap, ◌∙◌, arith, ◌==◌, unwrap_or, Packet, Site}
+use Rattle.two_phase.proofs.Words.{Fits, Each, packet_numbered, Rises}
+use Rattle.std.proofs.Common.{◌^◌}
+use Rattle.std.specs.Prelude.{find}
 use Rattle.std.specs.List.{All}
-use Rattle.flow_filter.specs.declared.packet.Packet.{Packet}
-use Rattle.flow_filter.specs.declared.site.Site.{Site}
-use Rattle.nf_function.specs.Records.{Fits}
 use Rattle.nf_msgs.specs.declared.msg.Msg.TheVariants as msg
-use Rattle.actor_net.proofs.WeightLaws.{Each}
-use Rattle.net_world.specs.Input.{IsRising, IsSteered, no_packet, packets, packet_numbered}
+use Rattle.net_world.specs.Input.{IsRising, IsSteered, no_packet, packets}
 use Rattle.net_world.proofs.FoundPackets.{found_fits, found_each}
-use Rattle.two_machine.proofs.Stages.{Rises}
 
 abbrev pub numbers : List Packet → List ℕ
 numbers ps = map (λ p. p.number) ps
@@ -45,9 +42,8 @@ all_numbered least ps r = by ps (found_each least ps r)
 
 -- before and after so many
 pub each_take : {X : Type 0} (P : X → Type 0) (k : ℕ) (xs : List X) → Each P xs → Each P (take k xs)
-each_take P zero xs h = tt
-each_take P (suc k) [] h = tt
 each_take P (suc k) (x ∷ xs) h = (h.0, each_take P k xs h.1)
+each_take y z xs h = tt
 
 pub each_drop : {X : Type 0} (P : X → Type 0) (k : ℕ) (xs : List X) → Each P xs → Each P (drop k xs)
 each_drop P zero xs h = h
@@ -55,6 +51,5 @@ each_drop P (suc k) [] h = tt
 each_drop P (suc k) (x ∷ xs) h = each_drop P k xs h.1
 
 pub numbers_split : (k : ℕ) (ps : List Packet) → numbers ps ≡ numbers (take k ps) ++ numbers (drop k ps)
-numbers_split zero ps = refl
-numbers_split (suc k) [] = refl
 numbers_split (suc k) (p ∷ ps) = ap (λ ns. p.number ∷ ns) (numbers_split k ps)
+numbers_split x ps = refl

@@ -1,13 +1,8 @@
 -- A message that the tables don't name leaves the node as it is.
-use Rattle.std.proofs.Common.{◌≡◌, ℕ, List, refl}
-use Rattle.flow_filter.specs.declared.packet.Packet.{Packet}
-use Rattle.nf_function.specs.declared.chunk.Chunk.{Chunk}
-use Rattle.packet_pool.specs.Pool.{FullCell}
+use Rattle.two_phase.proofs.Words.{◌≡◌, ℕ, List, refl, Packet, Chunk, FullCell, ControllerState, still, controller_row}
 use Rattle.nf_msgs.specs.declared.msg.Msg.{Msg}
 use Rattle.nf_msgs.specs.declared.msg.Msg.TheVariants as msg
 use Rattle.two_phase.specs.declared.msg.TwoMsg.TheVariants.{Inner}
-use Rattle.two_phase.specs.Parts.{ControllerState}
-use Rattle.two_phase.specs.Tables.{still, controller_row}
 
 pub not_named : (c : ControllerState) (port : ℕ) (message : Msg)
     → ((op : ℕ) → message ≡ msg.Enabled op → ⊥) → ((op : ℕ) (chunks : List Chunk) → message ≡ msg.Chunks op chunks → ⊥)

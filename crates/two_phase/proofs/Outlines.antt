@@ -1,32 +1,16 @@
 -- What the network whose instances are known by their laws shows of the real one: messages, notes, instances, the switch and the controller.
-use Rattle.std.proofs.Common.{◌≡◌, ℕ, Bool, true, Some, List, [], ◌∷◌}
-use Rattle.std.specs.Prelude.{if◌then◌else◌, nat_lt}
-use Rattle.flow_filter.specs.declared.flow.Flow.{Flow}
-use Rattle.flow_filter.specs.declared.packet.Packet.{Packet}
-use Rattle.flow_filter.specs.Filter.{matches, IsFlow}
-use Rattle.nf_function.specs.declared.output.Output.{Output}
-use Rattle.event_filter.specs.declared.action.Action.{Action}
+use Rattle.two_phase.proofs.Words.{◌≡◌, ℕ, Bool, true, Some, List, [], ◌∷◌, if◌then◌else◌, nat_lt, Flow, Packet, matches, IsFlow, Output, Action, Plain, Pass}
+use Rattle.two_phase.proofs.Words.{EventRule, Target, ToInstance, ToController, first_match, FullCell, WindowState, units_in, InstanceState, TwoMsg, TwoNote}
+use Rattle.two_phase.proofs.Words.{SwitchState, ControllerState, the_update, Rule, Free, Drops, Buffers, To_a, To_both, To_b}
 use Rattle.event_filter.specs.declared.action.Action.TheVariants as action
-use Rattle.event_filter.specs.declared.mark.Mark.TheVariants.{Plain, Pass}
-use Rattle.event_filter.specs.declared.rule.Rule.{Rule as EventRule}
-use Rattle.switch_rules.specs.declared.target.Target.{Target}
-use Rattle.switch_rules.specs.declared.target.Target.TheVariants.{Instance as ToInstance, Controller as ToController}
-use Rattle.switch_rules.specs.Rules.{first_match, AreFilters}
-use Rattle.packet_pool.specs.Pool.{FullCell}
-use Rattle.packet_window.specs.Window.{WindowState, IsBalanced}
+use Rattle.switch_rules.specs.Rules.{AreFilters}
+use Rattle.packet_window.specs.Window.{IsBalanced}
 use Rattle.nf_msgs.specs.declared.msg.Msg.TheVariants as msg
 use Rattle.nf_msgs.specs.declared.note.Note.TheVariants as inner
-use Rattle.nf_msgs.specs.Exports.{units_in}
-use Rattle.instance_worker.specs.declared.instance.Instance.{Instance as InstanceState}
-use Rattle.two_phase.specs.declared.msg.TwoMsg.{TwoMsg}
 use Rattle.two_phase.specs.declared.msg.TwoMsg.TheVariants as two
-use Rattle.two_phase.specs.declared.note.TwoNote.{TwoNote}
 use Rattle.two_phase.specs.declared.note.TwoNote.TheVariants as note
 use Rattle.two_phase.specs.declared.phase.Phase.{Phase}
 use Rattle.two_phase.specs.declared.phase.Phase.TheVariants as phase
-use Rattle.two_phase.specs.Parts.{SwitchState, ControllerState}
-use Rattle.two_phase.specs.Tables.{the_update}
-use Rattle.two_machine.proofs.Machine.{Rule, Free, Drops, Buffers, To_a, To_both, To_b}
 use Rattle.two_machine.proofs.Machine as m
 use Rattle.two_machine.proofs.Tables as core
 use Rattle.two_phase.proofs.RecordLaws.{Sound, Setting, chunks}

@@ -1,9 +1,7 @@
 -- The lines of packets are read off the notes that packets were processed: the other notes have none.
-use Rattle.std.proofs.Common.{◌≡◌, ℕ, List, ◌++◌, ap, ◌∙◌, filter_map}
-use Rattle.nf_function.specs.Semantics.{Semantics}
+use Rattle.two_phase.proofs.Words.{◌≡◌, ℕ, List, ◌++◌, ap, ◌∙◌, filter_map, Semantics, processed_in}
 use Rattle.nf_msgs.specs.declared.note.Note.{Note}
 use Rattle.report_lines.specs.Lines.{done_lines, out_lines}
-use Rattle.report_lines.specs.Seen.{processed_in}
 use Rattle.report_lines.proofs.ProcessedNotes.{same_dones, same_outs}
 use Rattle.two_phase.specs.Report.{packet_lines}
 

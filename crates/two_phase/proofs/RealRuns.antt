@@ -1,25 +1,13 @@
 -- Each run of the network of an update is shown by one of the reduced network, from the start on.
-use Rattle.std.proofs.Common.{◌≡◌, ℕ, suc, Bool, true, false, Some, List, [], ◌∷◌, ◌++◌, map, take, drop, refl, sym, ap, subst, ◌∙◌, arith}
-use Rattle.std.specs.Prelude.{if◌then◌else◌, is_some}
-use Rattle.std.specs.declared.alloc.Global.{Global}
-use Rattle.std.proofs.lemmas.Bool.{false≢true}
+use Rattle.two_phase.proofs.Words.{◌≡◌, ℕ, suc, Bool, true, false, Some, List, [], ◌∷◌, ◌++◌, map, take, drop, refl, sym, ap, subst, ◌∙◌, arith, if◌then◌else◌}
+use Rattle.two_phase.proofs.Words.{is_some, Global, false≢true, Packet, matches, IsFilter, Output, FunctionLaws, Semantics, ToInstance, Choice, IsRun}
+use Rattle.two_phase.proofs.Words.{queue_at, is_enabled, world_next, run, Each, packet_numbered, InPacket, node_step, node_ready, UpdateJob, IsUpdateJob}
+use Rattle.two_phase.proofs.Words.{items_of, two_start, Rises}
 use Rattle.std.proofs.lemmas.List.Elements.{All-nil, All-cons}
-use Rattle.flow_filter.specs.declared.packet.Packet.{Packet}
-use Rattle.flow_filter.specs.Filter.{matches, IsFilter}
-use Rattle.nf_function.specs.declared.output.Output.{Output}
 use Rattle.nf_function.specs.declared.unit.Unit as units
-use Rattle.nf_function.specs.Records.{Laws as FunctionLaws}
-use Rattle.nf_function.specs.Semantics.{Semantics}
-use Rattle.switch_rules.specs.declared.target.Target.TheVariants.{Instance as ToInstance}
 use Rattle.switch_rules.specs.Rules.{any}
-use Rattle.actor_net.specs.declared.choice.Choice.{Choice}
-use Rattle.actor_net.specs.Network.{IsRun, queue_at, is_enabled, world_next, run}
-use Rattle.actor_net.proofs.WeightLaws.{Each}
-use Rattle.net_world.specs.Input.{packet_numbered}
-use Rattle.two_phase.specs.declared.msg.TwoMsg.TheVariants.{InPacket, InStart, InEnd}
-use Rattle.two_phase.specs.Tables.{node_step, node_ready}
-use Rattle.two_phase.specs.Start.{UpdateJob, IsUpdateJob, items_of, first_controller, two_start}
-use Rattle.two_machine.proofs.Stages.{Rises}
+use Rattle.two_phase.specs.declared.msg.TwoMsg.TheVariants.{InStart, InEnd}
+use Rattle.two_phase.specs.Start.{first_controller}
 use Rattle.two_machine.proofs.Tables as core
 use Rattle.two_machine.proofs.Tables.{Fenced, Final}
 use Rattle.two_machine.proofs.View.{World, net, Nobody}

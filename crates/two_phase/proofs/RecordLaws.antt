@@ -1,28 +1,20 @@
 -- The live records of an instance keep the laws of the network whose instances are known by their laws: what is processed, selected, deleted
 -- and restored, at each unit.
-use Rattle.std.proofs.Common.{◌≡◌, ℕ, Bool, true, false, cond, Option, Some, None, List, [], ◌∷◌, map, refl, sym, ap, subst, ◌∙◌}
-use Rattle.std.specs.Prelude.{if◌then◌else◌, is_some, not, ◌||◌}
+use Rattle.two_phase.proofs.Words.{◌≡◌, ℕ, Bool, true, false, Option, Some, None, List, [], ◌∷◌, map, refl, sym, ap, subst, ◌∙◌, if◌then◌else◌, is_some, not}
+use Rattle.two_phase.proofs.Words.{◌||◌, false≢true, Filter, Packet, Site, matches, IsFilter, flow_of, Chunk, Output, Fits, FunctionLaws, Semantics, unit_at}
+use Rattle.two_phase.proofs.Words.{kept_after, output_for, without, newest_of, records_of, table_read, units_in}
+use Rattle.std.proofs.Common.{cond}
 use Rattle.std.specs.FinMap as finite
 use Rattle.std.specs.FinMap.{find, get-empty, get-retain_keys, get-entries}
-use Rattle.std.proofs.lemmas.Bool.{false≢true}
-use Rattle.flow_filter.specs.declared.filter.Filter.{Filter}
-use Rattle.flow_filter.specs.declared.packet.Packet.{Packet}
-use Rattle.flow_filter.specs.declared.site.Site.{Site}
-use Rattle.flow_filter.specs.Filter.{matches, IsFilter}
-use Rattle.flow_filter.specs.Flow.{flow_of}
-use Rattle.nf_function.specs.declared.chunk.Chunk.{Chunk}
-use Rattle.nf_function.specs.declared.output.Output.{Output}
 use Rattle.nf_function.specs.declared.unit.Unit as units
 use Rattle.nf_function.specs.Units.{unit_cmp, takes, TakesWhole}
-use Rattle.nf_function.specs.Records.{Fits, Laws as FunctionLaws, newest, is_newer}
-use Rattle.nf_function.specs.Semantics.{Semantics, unit_at, kept_after, output_for, is_sound}
+use Rattle.nf_function.specs.Records.{newest, is_newer}
+use Rattle.nf_function.specs.Semantics.{is_sound}
 use Rattle.state_chunk.specs.Format.{record_chunk}
-use Rattle.record_table.specs.Table.{Records, same_unit, is_among, AreSound, after_packet, taken_by, without, newest_of, either}
-use Rattle.record_table.specs.Chunks.{records_of, chunks_of}
+use Rattle.record_table.specs.Table.{Records, same_unit, is_among, AreSound, after_packet, taken_by, either}
+use Rattle.record_table.specs.Chunks.{chunks_of}
 use Rattle.record_table.proofs.UnitOrder.{one_unit, same_unit-true, same_unit_equiv}
 use Rattle.record_table.proofs.RecordLookUps.{get-after_packet, get-without, get-joined, sound_with_kept, sound_retain_keys}
-use Rattle.record_table.proofs.MadeChunks.{table_read}
-use Rattle.nf_msgs.specs.Exports.{units_in}
 use Rattle.two_machine.proofs.Tables.{System, Laws, none}
 
 -- records, each valid for its unit: those of an instance, or those that chunks were made of

@@ -1,6 +1,5 @@
 -- Lists after one another: what is sent before a last message, and that message; three texts.
-use Rattle.std.proofs.Common.{◌≡◌, Ok, Err, Result, List, ◌++◌, ap, ◌∙◌, append_assoc}
-use Rattle.std.specs.Prelude.{OnOk}
+use Rattle.two_phase.proofs.Words.{◌≡◌, Ok, Err, Result, List, ◌++◌, ap, ◌∙◌, append_assoc, OnOk}
 
 pub after_all : {X Y T E : Type 0} (result : Result T E) (new : List X × List Y) (sent before cells one : List X) (notes : List Y)
     → OnOk result (new ≡ (sent ++ one, notes)) → sent ≡ before ++ cells → OnOk result (new.0 ≡ before ++ (cells ++ one))

@@ -1,26 +1,16 @@
 -- The step of the real switch is that of the reduced one.
-use Rattle.std.proofs.Common.{◌≡◌, ℕ, zero, suc, ◌+◌, ◌-◌, Bool, true, false, Some, [], ◌∷◌, refl, sym, ap, subst, ◌∙◌, arith}
-use Rattle.std.specs.Prelude.{if◌then◌else◌, nat_lt, ◌&&◌, unwrap_or, option_map}
-use Rattle.std.proofs.lemmas.Bool.{false≢true}
-use Rattle.std.proofs.lemmas.Bool.Decides.{nat_tests}
-use Rattle.flow_filter.specs.declared.filter.Filter.{Filter}
-use Rattle.flow_filter.specs.declared.flow.Flow.{Flow}
-use Rattle.flow_filter.specs.Filter.{matches, IsFilter, IsFlow}
-use Rattle.flow_filter.specs.Flow.{flow_of}
+use Rattle.two_phase.proofs.Words.{◌≡◌, ℕ, zero, suc, ◌+◌, ◌-◌, Bool, true, false, Some, [], ◌∷◌, refl, sym, ap, subst, ◌∙◌, arith, if◌then◌else◌, nat_lt}
+use Rattle.two_phase.proofs.Words.{◌&&◌, unwrap_or, false≢true, nat_tests, Filter, Flow, matches, IsFilter, IsFlow, flow_of, Target, ToInstance, ToController}
+use Rattle.two_phase.proofs.Words.{first_match, FullCell, WindowState, TwoMsg, SwitchState, Step, still, To_a, To_both, To_b, read}
+use Rattle.std.specs.Prelude.{option_map}
 use Rattle.nf_function.proofs.FlowFits.{flow_fits}
-use Rattle.switch_rules.specs.declared.target.Target.{Target}
-use Rattle.switch_rules.specs.declared.target.Target.TheVariants.{Instance as ToInstance, Controller as ToController}
-use Rattle.switch_rules.specs.Rules.{Redirect, first_match, rules_redirected, redirected_target, target_eq}
+use Rattle.switch_rules.specs.Rules.{Redirect, rules_redirected, redirected_target, target_eq}
 use Rattle.switch_rules.proofs.RedirectLaws.{redirected_law, AreFilters-redirected}
-use Rattle.packet_pool.specs.Pool.{FullCell}
-use Rattle.packet_window.specs.Window.{WindowState, has_room, cell_for, with_one, with_home, with_end}
+use Rattle.packet_window.specs.Window.{has_room, cell_for, with_one, with_home, with_end}
 use Rattle.packet_window.proofs.WindowLemmas.{one_balanced, home_balanced, home_name, home_cells, home_closed, home_flying}
-use Rattle.two_phase.specs.declared.msg.TwoMsg.{TwoMsg}
-use Rattle.two_phase.specs.Parts.{SwitchState}
-use Rattle.two_phase.specs.Tables.{Step, still, target_of, goes_to, on_packet, on_lay, on_finish, switch_step, takes_in}
-use Rattle.two_machine.proofs.Machine.{Target as Goes, To_a, To_both, To_b, laid}
+use Rattle.two_phase.specs.Tables.{target_of, goes_to, on_packet, on_lay, on_finish, switch_step, takes_in}
+use Rattle.two_machine.proofs.Machine.{Target as Goes, laid}
 use Rattle.two_machine.proofs.Tables as core
-use Rattle.two_machine.proofs.View.{read}
 use Rattle.two_phase.proofs.RecordLaws.{Sound, Setting, sys}
 use Rattle.two_phase.proofs.Outlines
 use Rattle.two_phase.proofs.Outlines.{outline_note, IsGenuine, WindowShows, Shown, Sends, target_shown, SwitchShows}

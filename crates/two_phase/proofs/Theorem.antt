@@ -1,29 +1,19 @@
 -- The theorem of a two-phase update: what every run from the start keeps, and that a schedule's run never stops short.
-use Rattle.std.proofs.Common.{◌≡◌, ◌≢◌, ◌<◌, ◌⊎◌, inl, inr, ℕ, true, Some, Ok, Err, Result, List, [], ◌∷◌, length, sym, ap, subst, ◌∙◌, arith}
-use Rattle.std.specs.Prelude.{IfOk, slice_get}
-use Rattle.std.specs.declared.alloc.Global.{Global}
-use Rattle.std.proofs.lemmas.Bool.{false≢true}
-use Rattle.nf_function.specs.Records.{Laws as FunctionLaws}
-use Rattle.nf_function.specs.Semantics.{Semantics}
-use Rattle.actor_net.specs.declared.choice.Choice.{Choice}
+use Rattle.two_phase.proofs.Words.{◌≡◌, ◌<◌, ◌⊎◌, inl, inr, ℕ, true, Some, Ok, Err, Result, List, [], ◌∷◌, length, sym, ap, subst, ◌∙◌, arith, slice_get}
+use Rattle.two_phase.proofs.Words.{Global, false≢true, FunctionLaws, Semantics, Choice, Network, IsRun, is_done, is_enabled, run, TwoMsg, TwoNote, TwoNode}
+use Rattle.two_phase.proofs.Words.{SwitchState, node_step, node_ready, node_ended, UpdateJob, IsUpdateJob, two_start, Published, switch_in}
+use Rattle.std.proofs.Common.{◌≢◌}
+use Rattle.std.specs.Prelude.{IfOk}
 use Rattle.actor_net.specs.declared.replays.ReplayFault.{ReplayFault}
 use Rattle.actor_net.specs.declared.replays.ReplayFault.TheVariants.{NoMemory}
 use Rattle.actor_net.specs.declared.schedule.Schedule.{Schedule}
 use Rattle.actor_net.specs.declared.schedule.TheConstants.{MOST_CHOICES}
-use Rattle.actor_net.specs.Network.{Network, IsRun, is_done, is_enabled, run}
 use Rattle.actor_net.specs.Replays.{replay_of}
 use Rattle.actor_net.specs.Schedules.{StopsShort, enabled_choices, scheduled}
 use Rattle.actor_net.proofs.ReplayLaws.{replayed_ok}
 use Rattle.actor_net.proofs.ScheduleLaws.{none_enabled, scheduled_is_run}
-use Rattle.two_phase.specs.declared.msg.TwoMsg.{TwoMsg}
-use Rattle.two_phase.specs.declared.note.TwoNote.{TwoNote}
-use Rattle.two_phase.specs.declared.node.TwoNode.{TwoNode}
-use Rattle.two_phase.specs.Parts.{SwitchState}
-use Rattle.two_phase.specs.Tables.{node_step, node_ready, node_ended}
-use Rattle.two_phase.specs.Start.{UpdateJob, IsUpdateJob, two_start}
-use Rattle.two_phase.specs.Promises.{Published, switch_in}
 use Rattle.two_phase.proofs.RealRuns.{run_shown}
-use Rattle.two_phase.proofs.Words.{in_words}
+use Rattle.two_phase.proofs.RealPromises.{in_words}
 
 module _ (F : Type 0) {R : Type 0} (f : Semantics R) (laws : FunctionLaws f) (alloc : Global) (job : UpdateJob) (is : IsUpdateJob f.kind job) where
   abbrev pub Real : Type 0

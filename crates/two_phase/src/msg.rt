@@ -4,7 +4,7 @@ use nf_msgs::Msg;
 use packet_pool::Cell;
 
 /// A message between two nodes of the network of an update. `high` tells which of its two rules is meant.
-#[derive(Debug, Drop)]
+#[derive(Drop)]
 pub enum TwoMsg {
     // The input of the switch.
     /// The next packet of the trace.

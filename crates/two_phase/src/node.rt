@@ -85,12 +85,33 @@ fn step_instance<F: Function>(
         return Ok(());
     };
     let passed = passed(&message);
+    step_inside(instance, port, message, out)?;
+    tell(instance.alloc(), passed, out)
+}
+
+/// The step of an instance on a message of the network, among what the update sends and notes.
+fn step_inside<F: Function>(
+    instance: &mut Instance<F>,
+    port: u8,
+    message: Msg,
+    out: &mut Outbox<TwoMsg, TwoNote>,
+) -> Result<(), NoMemory>
+    ensures node { OnOk result (instance.new ≡ (instance_step F.semantics instance.old message).node) }
+    ensures sends { OnOk result (out.new.0 ≡ out.old.0 ++ map sent_inside (instance_step F.semantics instance.old message).sends) }
+    ensures notes { OnOk result (out.new.1 ≡ out.old.1 ++ map AnInner (instance_step F.semantics instance.old message).notes) }
+{
     let mut inner = Outbox::open(instance.alloc());
     instance.step(port, message, &mut inner)?;
+    move_all(inner, out)
+}
+
+/// Moves what an instance sends and notes to what the update does, in order.
+fn move_all(inner: Outbox<Msg, Note>, out: &mut Outbox<TwoMsg, TwoNote>) -> Result<(), NoMemory>
+    ensures { OnOk result (out.new ≡ (out.old.0 ++ map sent_inside inner.0, out.old.1 ++ map AnInner inner.1)) }
+{
     let (sent, notes) = inner.parts();
     send_all(VecDeque::from_vec(sent), out)?;
-    note_all(VecDeque::from_vec(notes), out)?;
-    tell(instance.alloc(), passed, out)
+    note_all(VecDeque::from_vec(notes), out)
 }
 
 /// A copy of the packet that a message takes past the rules.

@@ -1,7 +1,7 @@
 use nf_msgs::Note;
 
 /// What a step of an update writes into the log.
-#[derive(Debug, Drop)]
+#[derive(Drop)]
 pub enum TwoNote {
     /// A note of the network.
     Inner(Note),

@@ -1,5 +1,5 @@
 /// How far the controller is with the update.
-#[derive(Clone, Copy, Debug)]
+#[derive(Clone, Copy)]
 pub enum Phase {
     /// The update isn't asked for yet.
     Idle,

@@ -1,3 +1,4 @@
+//! The start of an update: its world, its nodes and its input.
 ghost use Rattle.std.specs.Prelude.{◌≡◌, ◌≤◌, [], ◌++◌, map, take, drop, IfOk, OnOk};
 ghost use Rattle.two_phase.specs.declared.msg.TwoMsg.TheVariants.{InPacket as APacket};
 ghost use Rattle.two_phase.specs.Start.{IsUpdateJob, first_nodes, input_at, two_start};
@@ -47,16 +48,17 @@ fn first_nodes<F: Function>(
     requires { (1 ≤ window) × (window ≤ MOST_WINDOW) }
     ensures { IfOk result (λ nodes. nodes.items ≡ first_nodes alloc (record { site = site; window = window; filter = filter; at = 0; packets = [] })) }
 {
-    let mut nodes = Vec::new(alloc);
     let switch = TwoSwitch::open(alloc, window, filter, site)?;
-    nodes.push(TwoNode::Switch(switch))?;
     let controller = TwoCtrl::open(alloc, filter);
-    nodes.push(TwoNode::Ctrl(controller))?;
     let source = Instance::open(alloc, SOURCE, MOST_RECORDS, false, site);
-    nodes.push(TwoNode::Instance(source))?;
     let destination = Instance::open(alloc, DESTINATION, MOST_RECORDS, false, site);
-    nodes.push(TwoNode::Instance(destination))?;
-    Ok(nodes)
+    let nodes = [
+        TwoNode::Switch(switch),
+        TwoNode::Ctrl(controller),
+        TwoNode::Instance(source),
+        TwoNode::Instance(destination),
+    ];
+    Ok(Vec::from_array(alloc, nodes)?)
 }
 
 /// The input: so many packets, the start, the other packets, and the end.
@@ -65,12 +67,23 @@ fn input_at(alloc: Global, at: u32, packets: Packets) -> Result<Vec<TwoMsg>, NoM
 {
     let mut items = Vec::new(alloc);
     let mut left = VecDeque::from_vec(packets.into_vec());
-    push_packets(&mut items, &mut left, at as usize)?;
+    push_input(&mut items, &mut left, at as usize)?;
+    Ok(items)
+}
+
+/// Moves the packets to the end of the input, with the start after so many, and puts the end behind them.
+fn push_input(
+    items: &mut Vec<TwoMsg>,
+    left: &mut VecDeque<CapturedPacket>,
+    at: usize,
+) -> Result<(), NoMemory>
+    ensures { OnOk result (items.new.items ≡ items.old.items ++ input_at at left.old.items) }
+{
+    push_packets(items, left, at)?;
     items.push(TwoMsg::InStart)?;
     let rest = left.len();
-    push_packets(&mut items, &mut left, rest)?;
-    items.push(TwoMsg::InEnd)?;
-    Ok(items)
+    push_packets(items, left, rest)?;
+    Ok(items.push(TwoMsg::InEnd)?)
 }
 
 /// Moves so many packets to the end of the input, or all where there are fewer.

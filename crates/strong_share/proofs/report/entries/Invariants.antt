@@ -1,6 +1,5 @@
 -- The entries so far, and those still to come.
-use Rattle.std.proofs.Common.{◌≡◌, ◌++◌, drop}
-use Rattle.strong_share.specs.Words.{entries}
+use Rattle.strong_share.proofs.Words.{◌≡◌, ◌++◌, drop, entries}
 use Rattle.strong_share.proofs.report.entries.Given as goal
 
 abbrev pub invariant-loop-note : goal.invariant-loop-note

@@ -1,6 +1,5 @@
 -- The members of the nodes so far, and those still to come, under the names that are left.
-use Rattle.std.proofs.Common.{◌≡◌, ◌++◌, drop}
-use Rattle.strong_share.specs.Report.{named_members}
+use Rattle.strong_share.proofs.Words.{◌≡◌, ◌++◌, drop, named_members}
 use Rattle.strong_share.proofs.report.named_members.Given as goal
 
 abbrev pub invariant-loop-node : goal.invariant-loop-node

@@ -1,6 +1,5 @@
 -- What is sent on so far and what is left are all.
-use Rattle.std.proofs.Common.{◌≡◌, ◌++◌, length}
-use Rattle.two_phase.specs.Tables.{forward_messages}
+use Rattle.two_phase.proofs.Words.{◌≡◌, ◌++◌, length, forward_messages}
 use Rattle.two_phase.proofs.moving.forward_all.Given as goal
 
 abbrev pub invariant-loop-cell : goal.invariant-loop-cell

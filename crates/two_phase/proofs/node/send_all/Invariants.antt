@@ -1,6 +1,5 @@
 -- What is sent so far and what is left are all.
-use Rattle.std.proofs.Common.{◌≡◌, ◌++◌, map, length}
-use Rattle.two_phase.specs.Tables.{sent_inside}
+use Rattle.two_phase.proofs.Words.{◌≡◌, ◌++◌, map, length, sent_inside}
 use Rattle.two_phase.proofs.node.send_all.Given as goal
 
 abbrev pub invariant-loop-to : goal.invariant-loop-to

@@ -1,6 +1,5 @@
 -- No node is left, or no name is.
-use Rattle.std.proofs.Common.{drop, arith}
-use Rattle.report_lines.specs.Seen.{texts_seen}
+use Rattle.two_phase.proofs.Words.{drop, arith, texts_seen}
 use Rattle.two_phase.proofs.InstanceNames.{all_nodes, no_names_seen}
 use Rattle.two_phase.proofs.report.named_instances.Goals as goal
 use Rattle.two_phase.proofs.report.named_instances.Goals.{else-loop-node-test, then-loop-node-test+in-Instance+in_default-left}

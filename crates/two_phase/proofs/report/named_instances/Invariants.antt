@@ -1,7 +1,5 @@
 -- The instances of the nodes so far, and those still to come, under the names that are left.
-use Rattle.std.proofs.Common.{◌≡◌, ◌++◌, drop}
-use Rattle.report_lines.specs.Seen.{texts_seen}
-use Rattle.two_phase.specs.Report.{named_instances}
+use Rattle.two_phase.proofs.Words.{◌≡◌, ◌++◌, drop, texts_seen, named_instances}
 use Rattle.two_phase.proofs.report.named_instances.Given as goal
 
 abbrev pub invariant-loop-node : goal.invariant-loop-node

@@ -1,7 +1,5 @@
 -- The notes so far, and those still to come.
-use Rattle.std.proofs.Common.{◌≡◌, ◌++◌, drop, filter_map}
-use Rattle.report_lines.specs.Seen.{processed_in}
-use Rattle.two_phase.specs.Promises.{inner_notes}
+use Rattle.two_phase.proofs.Words.{◌≡◌, ◌++◌, drop, filter_map, processed_in, inner_notes}
 use Rattle.two_phase.proofs.report.processed_notes.Given as goal
 
 abbrev pub invariant-loop-note : goal.invariant-loop-note

@@ -1,6 +1,5 @@
 -- So many packets are moved so far.
-use Rattle.std.proofs.Common.{◌≡◌, ◌-◌, ◌++◌, map, take, drop}
-use Rattle.two_phase.specs.declared.msg.TwoMsg.TheVariants.{InPacket}
+use Rattle.two_phase.proofs.Words.{◌≡◌, ◌-◌, ◌++◌, map, take, drop, InPacket}
 use Rattle.two_phase.proofs.starting.push_packets.Given as goal
 
 abbrev pub invariant-loop-count : goal.invariant-loop-count

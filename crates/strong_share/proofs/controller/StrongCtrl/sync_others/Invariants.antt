@@ -1,6 +1,5 @@
 -- The Syncs so far are sent.
-use Rattle.std.proofs.Common.{◌≡◌, ◌++◌}
-use Rattle.strong_share.specs.Tables.{syncs}
+use Rattle.strong_share.proofs.Words.{◌≡◌, ◌++◌, syncs}
 use Rattle.strong_share.proofs.controller.StrongCtrl.sync_others.Given as goal
 
 abbrev pub invariant-loop-member : goal.invariant-loop-member

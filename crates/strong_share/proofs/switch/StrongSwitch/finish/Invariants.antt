@@ -1,6 +1,5 @@
 -- The members so far are stopped.
-use Rattle.std.proofs.Common.{◌≡◌, ◌++◌}
-use Rattle.switch_node.specs.Switch.{stop_messages}
+use Rattle.strong_share.proofs.Words.{◌≡◌, ◌++◌, stop_messages}
 use Rattle.strong_share.proofs.switch.StrongSwitch.finish.Given as goal
 
 -- the stops so far are sent

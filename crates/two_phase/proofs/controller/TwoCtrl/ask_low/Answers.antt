@@ -1,7 +1,6 @@
 -- What is stored is sent, and then the order to lay the rule.
-use Rattle.std.proofs.Common.{false, [], ◌∷◌, ◌++◌, ap, ◌∙◌}
+use Rattle.two_phase.proofs.Words.{false, [], ◌∷◌, ◌++◌, ap, ◌∙◌, forward_messages}
 use Rattle.two_phase.specs.declared.msg.TwoMsg.TheVariants.{Lay}
-use Rattle.two_phase.specs.Tables.{forward_messages}
 use Rattle.two_phase.proofs.SentMessages.{after_all}
 use Rattle.two_phase.proofs.controller.TwoCtrl.ask_low.Goals as goal
 
