@@ -4,9 +4,9 @@ use Rattle.std.specs.Option.{ForSome}
 use Rattle.nf_io.specs.declared.outside.Role.{Role}
 use Rattle.nf_io.specs.Meaning.{Meaning}
 use Rattle.command_words.specs.Requests.{Asked}
-use Rattle.opennf_calls.specs.declared.outcome.Outcome.{Outcome}
+use Rattle.opennf_calls.specs.call_files.specs.declared.outcome.Outcome.{Outcome}
 use Rattle.opennf_calls.specs.Outcome.{HasOutcome}
-use Rattle.opennf_calls.specs.Status.{exit_number}
+use Rattle.opennf_calls.specs.call_files.specs.Status.{exit_number}
 
 -- this holds of the arguments that were given, or of some where they aren't told
 pub record ForGiven (given : Option (List (List ℕ))) (P : List (List ℕ) → Type 0) : Type 0 where

@@ -16,17 +16,17 @@ use Rattle.actor_net.specs.declared.choice.Choice.{Choice}
 use Rattle.actor_net.specs.declared.schedule.Schedule.{Schedule}
 use Rattle.actor_net.specs.Network.{Network, Stepped, IsRun, is_done, is_enabled, run, world_next}
 use Rattle.journal_file.specs.Reading.{journal_of}
-use Rattle.net_world.specs.declared.node.Node.{Node}
-use Rattle.net_world.specs.Nodes.{node_ended, node_ready, node_step}
-use Rattle.net_world.specs.Start.{started_with}
-use Rattle.run_headline.specs.run_report.specs.Lines.{report_text}
+use Rattle.network_calls.specs.net_world.specs.declared.node.Node.{Node}
+use Rattle.network_calls.specs.net_world.specs.Nodes.{node_ended, node_ready, node_step}
+use Rattle.network_calls.specs.net_world.specs.Start.{started_with}
+use Rattle.network_calls.specs.run_headline.specs.run_report.specs.Lines.{report_text}
 use Rattle.command_words.specs.Requests.{NetworkAsked}
 use Rattle.opennf_calls.specs.Again.{AuditLaw}
-use Rattle.opennf_calls.specs.NetworkRuns.{Scenario, RunResults, HasNoRun, HasRun, IsNoRun, IsRunOf}
-use Rattle.opennf_calls.specs.NetworkRuns.{config_for, given_script, head_for, job_for, run_given, start_for}
-use Rattle.opennf_calls.specs.Outcome.{first_refusal, journal_read, journal_refusal, script_refusal, trace_refusal}
-use Rattle.opennf_calls.proofs.FunctionLemmas.{from_both, from_kind}
-use Rattle.opennf_calls.proofs.SameInputs.{AreSame, same_scenario}
+use Rattle.call_files.specs.Scenarios.{Scenario, RunResults, given_script}
+use Rattle.network_calls.specs.NetworkRuns.{HasNoRun, HasRun, IsNoRun, IsRunOf, config_for, head_for, job_for, run_given, start_for}
+use Rattle.call_files.specs.Refusals.{first_refusal, journal_read, journal_refusal, script_refusal, trace_refusal}
+use Rattle.function_kinds.proofs.FunctionLemmas.{from_both, from_kind}
+use Rattle.call_files.proofs.SameInputs.{AreSame, same_scenario}
 
 -- each choice of a run is enabled in its turn
 enabled_at : {A M N : Type 0} (ready : A → M → Bool) (step : A → ℕ → M → Stepped A M N) (cs : List Choice) (w : Network A M N) (i : ℕ) (c : Choice)

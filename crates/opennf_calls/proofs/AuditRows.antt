@@ -5,14 +5,17 @@ use Rattle.nf_io.specs.declared.outside.Role.{Role}
 use Rattle.nf_io.specs.Meaning.{Meaning}
 use Rattle.actor_net.specs.declared.choice.Choice.{Choice}
 use Rattle.command_words.specs.Requests.{NetworkAsked, asks_audit}
-use Rattle.opennf_calls.specs.declared.status.Status.{Status}
-use Rattle.opennf_calls.specs.declared.status.Status.TheVariants.{NotARun, NoMemory}
-use Rattle.opennf_calls.specs.declared.network.Made.{Made}
-use Rattle.opennf_calls.specs.Functions.{OfKind}
-use Rattle.opennf_calls.specs.NetworkRuns.{RunResults, HasRun}
-use Rattle.opennf_calls.specs.Outcome.{ForResults, HasInput, IsBound, RowOf}
-use Rattle.opennf_calls.specs.Phases.{IsRefusedRun, OnlyRead, gives}
-use Rattle.opennf_calls.proofs.FunctionLemmas.{from_kind}
+use Rattle.call_files.specs.declared.status.Status.{Status}
+use Rattle.call_files.specs.declared.status.Status.TheVariants.{NotARun, NoMemory}
+use Rattle.call_files.specs.declared.results.Made.{Made}
+use Rattle.function_kinds.specs.Functions.{OfKind}
+use Rattle.call_files.specs.Scenarios.{RunResults}
+use Rattle.network_calls.specs.NetworkRuns.{HasRun}
+use Rattle.opennf_calls.specs.Outcome.{ForResults, RowOf}
+use Rattle.call_files.specs.Files.{HasInput, IsBound}
+use Rattle.network_calls.specs.RunSteps.{IsRefusedRun}
+use Rattle.call_files.specs.Phases.{OnlyRead, gives}
+use Rattle.function_kinds.proofs.FunctionLemmas.{from_kind}
 use Rattle.opennf_calls.proofs.JournalRows.{JournalTold, ReadsJournal, ToldRun}
 use Rattle.opennf_calls.proofs.RowLemmas.{silent, still_bound}
 use Rattle.opennf_calls.proofs.RunRows.{audit_reads}

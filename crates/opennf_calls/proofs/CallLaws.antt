@@ -9,20 +9,22 @@ use Rattle.nf_io.specs.Meaning.{Meaning}
 use Rattle.nf_io.specs.declared.outside.Role.TheVariants.{Script, Report, JournalOut}
 use Rattle.actor_net.specs.declared.schedule.Schedule.{Schedule}
 use Rattle.journal_file.specs.Format.{journal_bytes}
-use Rattle.net_world.specs.Runs.{choices_of}
+use Rattle.network_calls.specs.net_world.specs.Runs.{choices_of}
 use Rattle.command_words.specs.Requests.{Asked, NetworkAsked, asks_sim, asks_run, asks_audit}
-use Rattle.run_headline.specs.Subject.{Subject}
-use Rattle.run_headline.specs.Text.{HasHeadline}
-use Rattle.opennf_calls.specs.declared.status.Status.{Status}
+use Rattle.network_calls.specs.run_headline.specs.Subject.{Subject}
+use Rattle.network_calls.specs.run_headline.specs.Text.{HasHeadline}
+use Rattle.call_files.specs.declared.status.Status.{Status}
 use Rattle.opennf_calls.specs.Calls.{Call, OutcomeLaw, SaysHeadline, SimLaw}
-use Rattle.opennf_calls.specs.Command.{is_result}
-use Rattle.opennf_calls.specs.NetworkRuns.{Scenario, RunResults, HasRun, IsRunOf, head_for, run_given, subject_for, subject_of}
-use Rattle.opennf_calls.specs.Outcome.{Gained, HasResults, IsCompletedRun, IsDone, RowOf}
+use Rattle.call_files.specs.Command.{is_result}
+use Rattle.call_files.specs.Scenarios.{Scenario, RunResults}
+use Rattle.network_calls.specs.NetworkRuns.{HasRun, IsRunOf, head_for, run_given, subject_for, subject_of}
+use Rattle.call_files.specs.Files.{Gained}
+use Rattle.opennf_calls.specs.Outcome.{HasResults, IsCompletedRun, IsDone, RowOf}
 use Rattle.opennf_calls.proofs.AuditLaws.{reports, starts}
-use Rattle.opennf_calls.proofs.FunctionLemmas.{from_both, of_behavior, of_kind}
-use Rattle.opennf_calls.proofs.ScriptedCommands.{scripted_commands}
-use Rattle.opennf_calls.proofs.ScriptedPoints.{scripted_points}
-use Rattle.opennf_calls.proofs.SameInputs.{AreSame, same_scenario}
+use Rattle.function_kinds.proofs.FunctionLemmas.{from_both, of_behavior, of_kind}
+use Rattle.network_calls.proofs.ScriptedCommands.{scripted_commands}
+use Rattle.network_calls.proofs.ScriptedPoints.{scripted_points}
+use Rattle.call_files.proofs.SameInputs.{AreSame, same_scenario}
 
 -- two runs gave the same
 record GaveTheSame (made again : RunResults) : Type 0 where

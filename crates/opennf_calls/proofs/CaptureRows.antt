@@ -10,14 +10,16 @@ use Rattle.trace_reader.specs.declared.fault.TraceFault.TheVariants as fault
 use Rattle.trace_reader.specs.Answers.{AnswersTrace, HasReadCause}
 use Rattle.trace_reader.specs.Records.{capture_of}
 use Rattle.command_words.specs.Requests.{Asked}
-use Rattle.opennf_calls.specs.declared.status.Status.{Status}
-use Rattle.opennf_calls.specs.declared.network.Made.{Made}
-use Rattle.opennf_calls.specs.Command.{file_for, is_input, is_read_before, trace_file}
-use Rattle.opennf_calls.specs.Outcome.{AreResults, EarlierAreSound, ForResults, HasEarlier, HasInput, IsBound}
-use Rattle.opennf_calls.specs.Outcome.{IsRefusedCommand, RowOf, earlier_refusal, refusal_of, trace_refusal}
-use Rattle.opennf_calls.specs.Phases.{GivesReport, OnlyRead, ReadAlone, reports}
-use Rattle.opennf_calls.specs.Status.{trace_status}
-use Rattle.opennf_calls.proofs.RowLemmas.{OneFile, input_alone, not_before, one_read, read_fault, refused, silent}
+use Rattle.call_files.specs.declared.status.Status.{Status}
+use Rattle.call_files.specs.declared.results.Made.{Made}
+use Rattle.call_files.specs.Command.{file_for, is_input, is_read_before, trace_file}
+use Rattle.opennf_calls.specs.Outcome.{AreResults, EarlierAreSound, ForResults, HasEarlier, IsRefusedCommand, RowOf}
+use Rattle.call_files.specs.Files.{HasInput, IsBound}
+use Rattle.call_files.specs.Refusals.{earlier_refusal, refusal_of, trace_refusal}
+use Rattle.call_files.specs.Phases.{GivesReport, OnlyRead, ReadAlone, reports}
+use Rattle.call_files.specs.Status.{trace_status}
+use Rattle.opennf_calls.proofs.RowLemmas.{OneFile, input_alone, not_before, read_fault, refused, silent}
+use Rattle.call_files.proofs.ReadRoles.{one_read}
 
 -- a command that has a capture alone has one file
 pub one_capture : (asked : Asked) (trace : List ℕ) → ((role : Role) → file_for asked role ≡ trace_file trace role) → OneFile asked Trace

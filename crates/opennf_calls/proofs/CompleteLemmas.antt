@@ -4,10 +4,12 @@ use Rattle.nf_io.specs.declared.outside.Role.{Role}
 use Rattle.nf_io.specs.Meaning.{Meaning, Rose}
 use Rattle.actor_net.specs.declared.choice.Choice.{Choice}
 use Rattle.command_words.specs.Requests.{Asked}
-use Rattle.opennf_calls.specs.declared.status.Status.{Status}
-use Rattle.opennf_calls.specs.declared.status.Status.TheVariants.{Ok as Done, Usage, BadScript, BadTrace, BadJournal, NotARun, ReadFault, WriteFault, NoMemory}
-use Rattle.opennf_calls.specs.declared.outcome.Outcome.{Outcome}
-use Rattle.opennf_calls.specs.Outcome.{HasInput, RowOf, CauseOf, IsComplete, IsGoodEnd, Is_done, Is_memory, Is_no_run, refusal_of}
+use Rattle.call_files.specs.declared.status.Status.{Status}
+use Rattle.call_files.specs.declared.status.Status.TheVariants.{Ok as Done, Usage, BadScript, BadTrace, BadJournal, NotARun, ReadFault, WriteFault, NoMemory}
+use Rattle.call_files.specs.declared.outcome.Outcome.{Outcome}
+use Rattle.call_files.specs.Files.{HasInput}
+use Rattle.opennf_calls.specs.Outcome.{RowOf, CauseOf, IsComplete, IsGoodEnd, Is_done, Is_memory, Is_no_run}
+use Rattle.call_files.specs.Refusals.{refusal_of}
 
 -- nothing refuses the input, so no status does
 never : (asked : Asked) (bytes : Role → List ℕ) (status : Status) → refusal_of asked bytes ≡ None → refusal_of asked bytes ≡ Some status → ⊥

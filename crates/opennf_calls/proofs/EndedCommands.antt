@@ -7,13 +7,15 @@ use Rattle.command_words.specs.declared.fault.ArgumentsFault.{ArgumentsFault}
 use Rattle.command_words.specs.declared.fault.ArgumentsFault.TheVariants as words
 use Rattle.command_words.specs.Requests.{Asked, asks_sim}
 use Rattle.command_words.specs.Views.{Refuses}
-use Rattle.opennf_calls.specs.declared.outcome.Outcome.{Outcome}
-use Rattle.opennf_calls.specs.Command.{file_for}
-use Rattle.opennf_calls.specs.Outcome.{CauseOf, IsBound, MayBind, WroteNothing}
-use Rattle.opennf_calls.specs.Phases.{Binds, HasEnded, Performs, SameContents}
-use Rattle.opennf_calls.specs.Status.{words_status}
-use Rattle.opennf_calls.specs.declared.status.Status.TheVariants.{NoMemory}
-use Rattle.opennf_calls.proofs.BoundFiles.{bound_contents, none_named}
+use Rattle.call_files.specs.declared.outcome.Outcome.{Outcome}
+use Rattle.call_files.specs.Command.{file_for}
+use Rattle.opennf_calls.specs.Outcome.{CauseOf}
+use Rattle.call_files.specs.Files.{IsBound, MayBind, WroteNothing}
+use Rattle.call_files.specs.Phases.{Binds, SameContents}
+use Rattle.opennf_calls.specs.Ended.{HasEnded, Performs}
+use Rattle.call_files.specs.Status.{words_status}
+use Rattle.call_files.specs.declared.status.Status.TheVariants.{NoMemory}
+use Rattle.call_files.proofs.BoundFiles.{bound_contents, none_named}
 use Rattle.opennf_calls.proofs.LastLineLemmas.{bound_before, row_around}
 
 same_meaning : (a b : Meaning) → a.left ≡ b.left → a.written ≡ b.written → a.faults ≡ b.faults → a.name ≡ b.name → a ≡ b

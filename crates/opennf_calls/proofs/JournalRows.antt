@@ -11,14 +11,16 @@ use Rattle.journal_file.specs.declared.fault.JournalFault.{JournalFault}
 use Rattle.journal_file.specs.declared.fault.JournalFault.TheVariants as fault
 use Rattle.journal_file.specs.Reading.{GivesFrom, HasReadCause, count_of, journal_of, looked_at}
 use Rattle.command_words.specs.Requests.{Asked, NetworkAsked}
-use Rattle.opennf_calls.specs.declared.status.Status.{Status}
-use Rattle.opennf_calls.specs.Command.{file_for, is_input, is_read_before, with_journal}
-use Rattle.opennf_calls.specs.NetworkRuns.{Scenario}
-use Rattle.opennf_calls.specs.Outcome.{EarlierAreSound, HasEarlier, HasInput, IsBound, IsRead, IsRefusedCommand, IsScenario, RowOf}
-use Rattle.opennf_calls.specs.Outcome.{earlier_refusal, first_refusal, inputs_refusal, journal_read, journal_refusal, refusal_of}
-use Rattle.opennf_calls.specs.Phases.{HasInputs, OnlyRead, ReadAlone, ReadToEnd, TellsInputs}
-use Rattle.opennf_calls.specs.Status.{journal_status}
-use Rattle.opennf_calls.proofs.RowLemmas.{more_read, not_before, one_read, read_fault, refused, silent}
+use Rattle.call_files.specs.declared.status.Status.{Status}
+use Rattle.call_files.specs.Command.{file_for, is_input, is_read_before, with_journal}
+use Rattle.call_files.specs.Scenarios.{Scenario, IsScenario}
+use Rattle.opennf_calls.specs.Outcome.{EarlierAreSound, HasEarlier, IsRefusedCommand, RowOf}
+use Rattle.call_files.specs.Files.{HasInput, IsBound, IsRead}
+use Rattle.call_files.specs.Refusals.{earlier_refusal, first_refusal, inputs_refusal, journal_read, journal_refusal, refusal_of}
+use Rattle.call_files.specs.Phases.{HasInputs, OnlyRead, ReadAlone, ReadToEnd, TellsInputs}
+use Rattle.call_files.specs.Status.{journal_status}
+use Rattle.call_files.proofs.ReadRoles.{more_read, one_read}
+use Rattle.opennf_calls.proofs.RowLemmas.{not_before, read_fault, refused, silent}
 use Rattle.opennf_calls.proofs.RunRows.{Reads, journal_read_too, tells}
 
 -- what reading a journal of so many instances answers

@@ -7,17 +7,17 @@ use Rattle.nf_io.specs.declared.outside.Role.TheVariants.{Errors}
 use Rattle.nf_io.specs.Meaning.{Meaning, Rose, AppendsFront, Shown, as_named}
 use Rattle.actor_net.specs.declared.choice.Choice.{Choice}
 use Rattle.command_words.specs.Requests.{Asked}
-use Rattle.opennf_calls.specs.declared.status.Status.{Status}
-use Rattle.opennf_calls.specs.declared.status.Status.TheVariants.{Ok as Done, Usage, BadScript, BadTrace, BadJournal, NotARun, ReadFault, WriteFault, NoMemory}
-use Rattle.opennf_calls.specs.declared.outcome.Outcome.{Outcome}
-use Rattle.opennf_calls.specs.Command.{is_input, is_read_before, is_result, comes_before}
-use Rattle.opennf_calls.specs.NetworkRuns.{RunResults}
-use Rattle.opennf_calls.specs.Outcome.{HasInput, ForResults, IsBound, IsDone, IsWriteFault, IsReadFault, IsRefusedCommand}
-use Rattle.opennf_calls.specs.Outcome.{IsNotARun, MayBind, WroteNothing, WroteResultsAlone, Gained, RowOf, CauseOf, PutsLine}
-use Rattle.opennf_calls.specs.Phases.{SameContents, SameNames}
-use Rattle.opennf_calls.specs.Writing.{Written, Wrote, written}
-use Rattle.opennf_calls.proofs.BoundFiles.{same_named}
-use Rattle.opennf_calls.proofs.RoleLemmas.{at_each}
+use Rattle.call_files.specs.declared.status.Status.{Status}
+use Rattle.call_files.specs.declared.status.Status.TheVariants.{Ok as Done, Usage, BadScript, BadTrace, BadJournal, NotARun, ReadFault, WriteFault, NoMemory}
+use Rattle.call_files.specs.declared.outcome.Outcome.{Outcome}
+use Rattle.call_files.specs.Command.{is_input, is_read_before, is_result, comes_before}
+use Rattle.call_files.specs.Scenarios.{RunResults}
+use Rattle.call_files.specs.Files.{HasInput, IsBound, MayBind, WroteNothing, WroteResultsAlone, Gained}
+use Rattle.opennf_calls.specs.Outcome.{ForResults, IsDone, IsWriteFault, IsReadFault, IsRefusedCommand, IsNotARun, RowOf, CauseOf, PutsLine}
+use Rattle.call_files.specs.Phases.{SameContents, SameNames}
+use Rattle.call_files.specs.Writing.{Written, Wrote, written}
+use Rattle.call_files.proofs.BoundFiles.{same_named}
+use Rattle.call_files.proofs.RoleLemmas.{at_each}
 use Rattle.opennf_calls.proofs.RowLemmas.{not_errors, not_last}
 
 -- the states before and after a command, the state before its files were bound, and the state after the last line

@@ -8,12 +8,14 @@ use Rattle.trace_reader.specs.Making.{Makes}
 use Rattle.trace_reader.specs.declared.make.MakeFault.{MakeFault}
 use Rattle.trace_reader.specs.declared.make.MakeFault.TheVariants.{Write, NoMemory}
 use Rattle.command_words.specs.Requests.{GenAsked, asks_gen}
-use Rattle.opennf_calls.specs.Command.{is_input, is_result}
-use Rattle.opennf_calls.specs.NetworkRuns.{RunResults}
-use Rattle.opennf_calls.specs.Outcome.{ForResults, IsBound, gen_line}
-use Rattle.opennf_calls.specs.Phases.{OnlyRead, Performs}
-use Rattle.opennf_calls.specs.Status.{making_status}
-use Rattle.opennf_calls.proofs.RoleLemmas.{at_each}
+use Rattle.call_files.specs.Command.{is_input, is_result}
+use Rattle.call_files.specs.Scenarios.{RunResults}
+use Rattle.opennf_calls.specs.Outcome.{ForResults, gen_line}
+use Rattle.call_files.specs.Files.{IsBound}
+use Rattle.call_files.specs.Phases.{OnlyRead}
+use Rattle.opennf_calls.specs.Ended.{Performs}
+use Rattle.call_files.specs.Status.{making_status}
+use Rattle.call_files.proofs.RoleLemmas.{at_each}
 use Rattle.opennf_calls.proofs.TwoResults.{GivesBoth, WritesFirst, file_failed}
 
 results_of : (g : GenAsked) (other : Role) → IsTrue (is_result (asks_gen g) other) → (other ≡ TraceOut) ⊎ (other ≡ Report)

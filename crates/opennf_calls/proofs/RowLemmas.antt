@@ -8,15 +8,17 @@ use Rattle.nf_io.specs.Meaning.{Meaning, Rose, AppendsFront}
 use Rattle.nf_io.specs.Roles.{is_read}
 use Rattle.actor_net.specs.declared.choice.Choice.{Choice}
 use Rattle.command_words.specs.Requests.{Asked, CheckAsked, asks_check}
-use Rattle.opennf_calls.specs.declared.status.Status.{Status}
-use Rattle.opennf_calls.specs.declared.status.Status.TheVariants.{Ok as Done, WriteFault}
-use Rattle.opennf_calls.specs.Command.{file_for, is_input, is_read_before, is_result, comes_before}
-use Rattle.opennf_calls.specs.Outcome.{EarlierAreSound, HasEarlier, HasInput, ForResults, IsBound, WroteNothing, WroteResultsAlone}
-use Rattle.opennf_calls.specs.Outcome.{Gained, IsReadFault, IsRefusedCommand, RowOf, earlier_refusal, refusal_of}
-use Rattle.opennf_calls.specs.NetworkRuns.{RunResults}
-use Rattle.opennf_calls.specs.Phases.{GivesReport, OnlyRead, ReadAlone, SameNames, Performs}
-use Rattle.opennf_calls.specs.Writing.{Gains, Written, all_of, front_of, Wrote}
-use Rattle.opennf_calls.proofs.RoleLemmas.{at_each, this_or_other}
+use Rattle.call_files.specs.declared.status.Status.{Status}
+use Rattle.call_files.specs.declared.status.Status.TheVariants.{Ok as Done, WriteFault}
+use Rattle.call_files.specs.Command.{file_for, is_input, is_read_before, is_result, comes_before}
+use Rattle.opennf_calls.specs.Outcome.{EarlierAreSound, HasEarlier, ForResults, IsReadFault, IsRefusedCommand, RowOf}
+use Rattle.call_files.specs.Files.{HasInput, IsBound, WroteNothing, WroteResultsAlone, Gained}
+use Rattle.call_files.specs.Refusals.{earlier_refusal, refusal_of}
+use Rattle.call_files.specs.Scenarios.{RunResults}
+use Rattle.call_files.specs.Phases.{GivesReport, OnlyRead, SameNames}
+use Rattle.opennf_calls.specs.Ended.{Performs}
+use Rattle.call_files.specs.Writing.{Gains, Written, all_of, front_of, Wrote}
+use Rattle.call_files.proofs.RoleLemmas.{at_each, this_or_other}
 
 -- a role that is read isn't one that is written
 pub not_report : (asked : Asked) (role : Role) → IsTrue (is_input asked role) → role ≢ Report
@@ -59,23 +61,6 @@ module _ (asked : Asked) (role : Role) (one : OneFile asked role) where
   report_alone read JournalOut result = let none = no_result read JournalOut refl in absurd (cc)
   report_alone read TraceOut result = let none = no_result read TraceOut refl in absurd (cc)
   report_alone read other result = absurd (cc)
-
--- a role that is read was read, and nothing else
-pub one_read : (role : Role) (old new : Role → Meaning) → IsTrue (is_read role) → ReadAlone role old new → OnlyRead old new
-one_read role old new reads alone = record {
-  written = at_each role old new (λ a b. b.written ≡ a.written) alone.others (λ m. refl) alone.written;
-  names = at_each role old new (λ a b. b.name ≡ a.name) alone.others (λ m. refl) alone.name;
-  others = λ other unread. alone.others other (λ same.
-      let never : is_read role ≡ false = subst (λ (r : Role). is_read r ≡ false) same unread in cc);
-}
-
--- inputs were read, and then more
-pub more_read : (old mid new : Role → Meaning) → OnlyRead old mid → OnlyRead mid new → OnlyRead old new
-more_read old mid new first second = record {
-  written = λ role. second.written role ∙ first.written role;
-  names = λ role. second.names role ∙ first.names role;
-  others = λ role unread. second.others role unread ∙ first.others role unread;
-}
 
 pub not_before : (b : Bool) → IsTrue (b && false) → ⊥
 not_before true is = cc

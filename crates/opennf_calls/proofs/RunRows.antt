@@ -7,13 +7,15 @@ use Rattle.nf_io.specs.Meaning.{Meaning}
 use Rattle.nf_io.specs.Roles.{is_read}
 use Rattle.actor_net.specs.declared.schedule.Schedule.{Schedule}
 use Rattle.command_words.specs.Requests.{Asked, FailAsked, NetworkAsked, asks_sim, asks_run, asks_audit, asks_fail}
-use Rattle.opennf_calls.specs.declared.status.Status.{Status}
-use Rattle.opennf_calls.specs.declared.status.Status.TheVariants.{BadScript, BadTrace, ReadFault, NoMemory}
-use Rattle.opennf_calls.specs.Command.{is_input, is_read_before, run_file, with_journal}
-use Rattle.opennf_calls.specs.NetworkRuns.{Scenario, RunResults, HasRun, given_script}
-use Rattle.opennf_calls.specs.Outcome.{EarlierAreSound, ForResults, HasEarlier, HasInput, IsBound, IsRefusedCommand, RowOf, earlier_refusal}
-use Rattle.opennf_calls.specs.Outcome.{first_refusal, inputs_refusal, journal_read, journal_refusal, refusal_of, script_refusal}
-use Rattle.opennf_calls.specs.Phases.{HasInputs, InputsFail, IsSoundBefore, OnlyRead, ReadToEnd, RefusesInputs, ScriptIsSound, TellsInputs, TellsScript}
+use Rattle.call_files.specs.declared.status.Status.{Status}
+use Rattle.call_files.specs.declared.status.Status.TheVariants.{BadScript, BadTrace, ReadFault, NoMemory}
+use Rattle.call_files.specs.Command.{is_input, is_read_before, run_file, with_journal}
+use Rattle.call_files.specs.Scenarios.{Scenario, RunResults, given_script}
+use Rattle.network_calls.specs.NetworkRuns.{HasRun}
+use Rattle.opennf_calls.specs.Outcome.{EarlierAreSound, ForResults, HasEarlier, IsRefusedCommand, RowOf}
+use Rattle.call_files.specs.Files.{HasInput, IsBound}
+use Rattle.call_files.specs.Refusals.{earlier_refusal, first_refusal, inputs_refusal, journal_read, journal_refusal, refusal_of, script_refusal}
+use Rattle.call_files.specs.Phases.{HasInputs, InputsFail, IsSoundBefore, OnlyRead, ReadToEnd, RefusesInputs, ScriptIsSound, TellsInputs, TellsScript}
 use Rattle.opennf_calls.proofs.RowLemmas.{first_read, not_before, read_fault, refused, silent}
 
 -- the files of a run of the network are inputs, where its journal is written and where it is read

@@ -8,14 +8,16 @@ use Rattle.nf_io.specs.Meaning.{Meaning, Rose, AppendsFront}
 use Rattle.nf_io.specs.Roles.{is_read, same_role}
 use Rattle.actor_net.specs.declared.choice.Choice.{Choice}
 use Rattle.command_words.specs.Requests.{Asked}
-use Rattle.opennf_calls.specs.declared.status.Status.{Status}
-use Rattle.opennf_calls.specs.declared.status.Status.TheVariants.{Ok as Done, WriteFault}
-use Rattle.opennf_calls.specs.Command.{file_for, is_input, is_result, comes_before}
-use Rattle.opennf_calls.specs.NetworkRuns.{RunResults}
-use Rattle.opennf_calls.specs.Outcome.{ForResults, IsBound, WroteResultsAlone, Gained, RowOf}
-use Rattle.opennf_calls.specs.Phases.{OnlyRead, SameNames, Performs}
-use Rattle.opennf_calls.specs.Writing.{Gains, Written, all_of, front_of, Wrote}
-use Rattle.opennf_calls.proofs.RoleLemmas.{at_each, other_place}
+use Rattle.call_files.specs.declared.status.Status.{Status}
+use Rattle.call_files.specs.declared.status.Status.TheVariants.{Ok as Done, WriteFault}
+use Rattle.call_files.specs.Command.{file_for, is_input, is_result, comes_before}
+use Rattle.call_files.specs.Scenarios.{RunResults}
+use Rattle.opennf_calls.specs.Outcome.{ForResults, RowOf}
+use Rattle.call_files.specs.Files.{IsBound, WroteResultsAlone, Gained}
+use Rattle.call_files.specs.Phases.{OnlyRead, SameNames}
+use Rattle.opennf_calls.specs.Ended.{Performs}
+use Rattle.call_files.specs.Writing.{Gains, Written, all_of, front_of, Wrote}
+use Rattle.call_files.proofs.RoleLemmas.{at_each, other_place}
 use Rattle.opennf_calls.proofs.RowLemmas.{not_last, not_report}
 
 -- the command has a result at this role, which is written before the report, and no other

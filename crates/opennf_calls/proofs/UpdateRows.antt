@@ -1,24 +1,18 @@
 -- The rows of a two-phase update, and that what was read is an update.
-use Rattle.std.proofs.Common.{◌≤◌, ◌<◌, ◌^◌, Ok, length, refl, arith}
-use Rattle.std.specs.Prelude.{All}
-use Rattle.flow_filter.specs.Filter.{IsFilter}
-use Rattle.flow_filter.specs.Limits.{most_packets}
+use Rattle.std.proofs.Common.{Ok, refl}
 use Rattle.nf_io.specs.declared.outside.Role.{Role}
 use Rattle.nf_io.specs.declared.outside.Role.TheVariants.{Trace}
 use Rattle.nf_io.specs.Meaning.{Meaning}
 use Rattle.actor_net.specs.declared.schedule.Schedule.{Schedule}
 use Rattle.trace_reader.specs.declared.trace.Trace.{Trace as Captured}
-use Rattle.trace_reader.specs.Records.{AreNumbered}
 use Rattle.command_words.specs.declared.request.Publishing.{Publishing}
 use Rattle.command_words.specs.Requests.{PublishedAsked, asks_published}
 use Rattle.command_words.specs.RequestViews.{published_view}
-use Rattle.net_world.specs.Input.{IsSteered}
-use Rattle.run_input.proofs.ScriptedOrders.{numbers_rise}
-use Rattle.two_phase.specs.Start.{IsUpdateJob}
-use Rattle.opennf_calls.specs.declared.network.Made.{Made}
-use Rattle.opennf_calls.specs.Outcome.{ForResults, IsBound}
-use Rattle.opennf_calls.specs.Phases.{GivesReport, ReadAlone, reports}
-use Rattle.opennf_calls.specs.UpdateRuns.{HasUpdate, scene_of, update_for}
+use Rattle.call_files.specs.declared.results.Made.{Made}
+use Rattle.opennf_calls.specs.Outcome.{ForResults}
+use Rattle.call_files.specs.Files.{IsBound}
+use Rattle.call_files.specs.Phases.{GivesReport, ReadAlone, reports}
+use Rattle.network_calls.specs.UpdateRuns.{HasUpdate, scene_of}
 use Rattle.opennf_calls.proofs.CaptureRows.{AnswersCapture, ReadsCapture, capture_report, one_capture}
 
 -- an update reads a capture alone
@@ -36,16 +30,3 @@ update_results asked schedule old new bound alone captured answers made holds by
     capture_report (asks_published p schedule) (update_reads p schedule) old new bound alone captured answers made
     (λ bytes read.
     record { scene = scene_of asked captured; is_scene = record { read = read; inside = refl; outside = refl; filter = refl }; holds = holds }) bytes told
-
--- the packets of a capture, and what the words say, are an update
-pub is_update : (asked : Publishing) (captured : Captured) → asked.site.inside.bits < 2 ^ 32 → IsFilter asked.filter → AreNumbered 1 captured.packets
-    → All (IsSteered asked.site) captured.packets → length captured.packets ≤ most_packets
-    → IsUpdateJob asked.kind (update_for (published_view asked) (scene_of asked captured))
-is_update asked captured site filter numbers steered few = record {
-  window = asked.window_in_range;
-  site = site;
-  filter = record { numbers = filter; whole = asked.whole };
-  steered = steered;
-  numbers = numbers_rise 1 1 captured.packets (omega arith) numbers;
-  few = few;
-}

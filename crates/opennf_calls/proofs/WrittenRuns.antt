@@ -6,16 +6,18 @@ use Rattle.nf_io.specs.Meaning.{Meaning}
 use Rattle.actor_net.specs.declared.choice.Choice.{Choice}
 use Rattle.actor_net.specs.declared.schedule.Schedule.{Schedule}
 use Rattle.command_words.specs.Requests.{Asked, FailAsked, NetworkAsked, asks_sim, asks_run, asks_audit, asks_fail}
-use Rattle.opennf_calls.specs.declared.status.Status.{Status}
-use Rattle.opennf_calls.specs.declared.status.Status.TheVariants.{WriteFault, NoMemory}
-use Rattle.opennf_calls.specs.declared.outcome.Outcome.{Outcome}
-use Rattle.opennf_calls.specs.declared.network.Made.{Made}
-use Rattle.opennf_calls.specs.Command.{file_for, is_result, with_journal}
-use Rattle.opennf_calls.specs.NetworkRuns.{RunResults}
-use Rattle.opennf_calls.specs.Outcome.{ForResults, IsBound}
-use Rattle.opennf_calls.specs.Phases.{GivesReport, OnlyRead, Performs, gives}
-use Rattle.opennf_calls.specs.Writing.{Written, all_of, front_of, is_part, report_end, Wrote, WroteReport}
-use Rattle.opennf_calls.specs.Writing.{WroteBoth, WroteFront, WroteRun, Report_alone, Both, Front_alone, Nothing}
+use Rattle.call_files.specs.declared.status.Status.{Status}
+use Rattle.call_files.specs.declared.status.Status.TheVariants.{WriteFault, NoMemory}
+use Rattle.call_files.specs.declared.outcome.Outcome.{Outcome}
+use Rattle.call_files.specs.declared.results.Made.{Made}
+use Rattle.call_files.specs.Command.{file_for, is_result, with_journal}
+use Rattle.call_files.specs.Scenarios.{RunResults}
+use Rattle.opennf_calls.specs.Outcome.{ForResults}
+use Rattle.call_files.specs.Files.{IsBound}
+use Rattle.call_files.specs.Phases.{GivesReport, OnlyRead, gives}
+use Rattle.opennf_calls.specs.Ended.{Performs}
+use Rattle.call_files.specs.Writing.{Written, all_of, front_of, is_part, report_end, Wrote, WroteReport}
+use Rattle.call_files.specs.Writing.{WroteBoth, WroteFront, WroteRun, Report_alone, Both, Front_alone, Nothing}
 use Rattle.opennf_calls.proofs.RowLemmas.{ends, report_failed, report_written, silent}
 use Rattle.opennf_calls.proofs.TwoResults.{GivesBoth, WritesFirst, both_written, file_failed, second_failed}
 

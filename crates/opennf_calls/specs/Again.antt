@@ -4,8 +4,9 @@ use Rattle.nf_io.specs.declared.outside.Role.{Role}
 use Rattle.nf_io.specs.declared.outside.Role.TheVariants.{Trace, Script, JournalIn, Report, JournalOut}
 use Rattle.actor_net.specs.declared.schedule.Schedule.{Schedule}
 use Rattle.command_words.specs.Requests.{NetworkAsked, asks_audit}
-use Rattle.opennf_calls.specs.NetworkRuns.{RunResults}
-use Rattle.opennf_calls.specs.Outcome.{FailsAt, IsAudited, IsCompletedRun, refusal_of}
+use Rattle.call_files.specs.Scenarios.{RunResults}
+use Rattle.opennf_calls.specs.Outcome.{FailsAt, IsAudited, IsCompletedRun}
+use Rattle.call_files.specs.Refusals.{refusal_of}
 
 -- the inputs of a run again, with the journal that it wrote
 pub record AreAgain (bytes again : Role → List ℕ) (made : RunResults) : Type 0 where

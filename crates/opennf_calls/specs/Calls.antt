@@ -7,13 +7,15 @@ use Rattle.nf_io.specs.declared.outside.Role.TheVariants.{Report}
 use Rattle.nf_io.specs.Meaning.{Meaning}
 use Rattle.actor_net.specs.declared.schedule.Schedule.{Schedule}
 use Rattle.command_words.specs.Requests.{Asked, NetworkAsked, asks_sim, asks_run, asks_audit}
-use Rattle.run_headline.specs.Text.{HasHeadline}
-use Rattle.opennf_calls.specs.declared.outcome.Outcome.{Outcome}
-use Rattle.opennf_calls.specs.declared.status.Status.TheVariants.{Ok as Done}
-use Rattle.opennf_calls.specs.Command.{is_result}
-use Rattle.opennf_calls.specs.Functions.{OfBehavior}
-use Rattle.opennf_calls.specs.NetworkRuns.{Scenario, head_for, subject_of}
-use Rattle.opennf_calls.specs.Outcome.{Gained, HasInput, HasOutcome, IsScenario}
+use Rattle.network_calls.specs.run_headline.specs.Text.{HasHeadline}
+use Rattle.call_files.specs.declared.outcome.Outcome.{Outcome}
+use Rattle.call_files.specs.declared.status.Status.TheVariants.{Ok as Done}
+use Rattle.call_files.specs.Command.{is_result}
+use Rattle.function_kinds.specs.Functions.{OfBehavior}
+use Rattle.call_files.specs.Scenarios.{Scenario, IsScenario}
+use Rattle.network_calls.specs.NetworkRuns.{head_for, subject_of}
+use Rattle.call_files.specs.Files.{Gained, HasInput}
+use Rattle.opennf_calls.specs.Outcome.{HasOutcome}
 
 -- the words of a command that reports a run
 abbrev pub run_words : Asked → Option NetworkAsked

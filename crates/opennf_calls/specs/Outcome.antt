@@ -1,58 +1,38 @@
 -- What a run of the program reads, writes and answers: one table of statuses for all commands. A further command is a further case
 -- of `file_for` and of what it can be refused for and gives: `refusal_of`, `earlier_refusal` and `FailsAt` where it reads inputs, and
 -- `AreResults`. The table stays as it is. This project's own.
-use Rattle.std.specs.Prelude.{◌≡◌, ◌≢◌, ℕ, ◌++◌, List, [], codes, decimal, length, Option, None}
-use Rattle.std.specs.Prelude.{Some, Bool, false, ◌&&◌, Result, Ok, Err, option_and_then, IsTrue, ◌⊎◌}
+use Rattle.std.specs.Prelude.{◌≡◌, ℕ, ◌++◌, List, [], codes, decimal, Option, None}
+use Rattle.std.specs.Prelude.{Some, ◌&&◌, Ok, IsTrue, ◌⊎◌}
 use Rattle.std.specs.Io.KnownBytes.{Appends}
 use Rattle.nf_io.specs.declared.outside.Role.{Role}
-use Rattle.nf_io.specs.declared.outside.Role.TheVariants.{Trace, Script, JournalIn, Report, TraceOut, Errors}
+use Rattle.nf_io.specs.declared.outside.Role.TheVariants.{Script, Report, TraceOut, Errors}
 use Rattle.nf_io.specs.Meaning.{Meaning, Rose, AppendsFront}
-use Rattle.flow_filter.specs.Reading.{prefix_numbers}
-use Rattle.trace_reader.specs.declared.trace.Trace.{Trace as Captured}
-use Rattle.trace_reader.specs.declared.fault.TraceFault.{TraceFault}
-use Rattle.trace_reader.specs.Records.{capture_of}
 use Rattle.trace_reader.specs.Generated.{capture}
 use Rattle.op_script.specs.declared.script.Script.{Script as TheScript}
-use Rattle.op_script.specs.declared.fault.ScriptKind.{ScriptKind}
-use Rattle.op_script.specs.Reading.{ScriptView, script_of, script_view}
+use Rattle.op_script.specs.Reading.{script_of, script_view}
 use Rattle.op_script.specs.Printing.{script_text}
-use Rattle.journal_file.specs.declared.fault.JournalFault.{JournalFault}
-use Rattle.journal_file.specs.Reading.{journal_of}
 use Rattle.actor_net.specs.declared.choice.Choice.{Choice}
 use Rattle.actor_net.specs.declared.schedule.Schedule.{Schedule}
 use Rattle.command_words.specs.Requests.{Asked, NetworkAsked, FailAsked, CheckAsked, GenAsked, asks_sim, asks_run}
 use Rattle.command_words.specs.Requests.{asks_audit, asks_fail, asks_check, asks_gen, asks_published, asks_strong}
 use Rattle.command_words.specs.Values.{names_of}
-use Rattle.opennf_calls.specs.declared.status.Status.{Status}
-use Rattle.opennf_calls.specs.declared.status.Status.TheVariants.{Ok as Done, Usage, BadScript, BadTrace, BadJournal, NotARun, ReadFault, WriteFault, NoMemory}
-use Rattle.opennf_calls.specs.declared.outcome.Outcome.{Outcome}
-use Rattle.opennf_calls.specs.Command.{file_for, is_input, is_read_before, is_result, comes_before}
-use Rattle.opennf_calls.specs.FailRuns.{HasFailover, HasNoFailover}
-use Rattle.opennf_calls.specs.NetworkRuns.{Scenario, RunResults, given_script, HasRun, HasNoRun}
-use Rattle.opennf_calls.specs.Status.{line_of, trace_status, journal_status}
-use Rattle.opennf_calls.specs.StrongRuns.{IsShared}
-use Rattle.opennf_calls.specs.UpdateRuns.{IsUpdated}
-
--- what a run is given: the capture and the script that the bytes are read as, and the site with the inside prefix and the outside address of the words
-pub record IsScenario (s : NetworkAsked) (bytes : Role → List ℕ) (scenario : Scenario) : Type 0 where
-  pub read : capture_of (bytes Trace) ≡ Ok scenario.captured
-  pub said : given_script s (bytes Script) ≡ Ok (script_view scenario.script)
-  pub inside : prefix_numbers scenario.site.inside ≡ s.inside
-  pub outside : scenario.site.outside ≡ s.outside
-
--- what is said of a run holds of what it is given
-pub record OfScenario (s : NetworkAsked) (bytes : Role → List ℕ) (P : Scenario → Type 0) : Type 0 where
-  pub scenario : Scenario
-  pub is_scenario : IsScenario s bytes scenario
-  pub holds : P scenario
+use Rattle.call_files.specs.declared.status.Status.{Status}
+use Rattle.call_files.specs.declared.status.Status.TheVariants.{Ok as Done, Usage, BadScript, BadTrace, BadJournal, NotARun, ReadFault, WriteFault, NoMemory}
+use Rattle.call_files.specs.declared.outcome.Outcome.{Outcome}
+use Rattle.call_files.specs.Command.{is_input, is_read_before, is_result, comes_before}
+use Rattle.network_calls.specs.FailRuns.{HasFailover, HasNoFailover}
+use Rattle.call_files.specs.Scenarios.{RunResults}
+use Rattle.network_calls.specs.NetworkRuns.{HasRun, HasNoRun}
+use Rattle.call_files.specs.Status.{line_of}
+use Rattle.network_calls.specs.StrongRuns.{IsShared}
+use Rattle.network_calls.specs.UpdateRuns.{IsUpdated}
+use Rattle.call_files.specs.Files.{Gained, HasInput, IsBound, IsRead, MayBind, Unwritten, WroteNothing, WroteResultsAlone}
+use Rattle.call_files.specs.Refusals.{earlier_refusal, journal_read, refusal_of}
+use Rattle.call_files.specs.Scenarios.{OfScenario}
 
 -- a complete run of the network, by a schedule if there is one, with its report and its journal
 abbrev pub IsCompletedRun : NetworkAsked → (Role → List ℕ) → Option Schedule → RunResults → Type 0
 IsCompletedRun s bytes by made = OfScenario s bytes (λ scenario. HasRun s scenario by made)
-
--- what the bytes of a journal are read as
-abbrev pub journal_read : NetworkAsked → (Role → List ℕ) → Result (List Choice) JournalFault
-journal_read s bytes = journal_of s.kind (length s.instances) (bytes JournalIn)
 
 -- the run that a journal tells
 pub record IsAudited (s : NetworkAsked) (bytes : Role → List ℕ) (made : RunResults) : Type 0 where
@@ -81,51 +61,6 @@ pub record AreGenTexts (g : GenAsked) (written reported : List ℕ) : Type 0 whe
   pub made : written ≡ capture g.number g.packets g.hosts
   pub line : reported ≡ gen_line g
 
--- the status that refuses a capture
-abbrev pub trace_refusal : Result Captured TraceFault → Option Status
-trace_refusal (Ok trace) = None
-trace_refusal (Err fault) = Some (trace_status fault)
-
--- the status that refuses a script
-abbrev pub script_refusal : Result ScriptView (ℕ × ScriptKind) → Option Status
-script_refusal (Ok script) = None
-script_refusal (Err fault) = Some (BadScript fault.0 fault.1)
-
--- the status that refuses a journal
-abbrev pub journal_refusal : Result (List Choice) JournalFault → Option Status
-journal_refusal (Ok choices) = None
-journal_refusal (Err fault) = Some (journal_status fault)
-
--- the first of two refusals
-abbrev pub first_refusal : Option Status → Option Status → Option Status
-first_refusal None next = next
-first_refusal (Some status) next = Some status
-
--- a run's script comes before its capture
-abbrev pub inputs_refusal : NetworkAsked → (Role → List ℕ) → Option Status
-inputs_refusal s bytes = first_refusal (script_refusal (given_script s (bytes Script))) (trace_refusal (capture_of (bytes Trace)))
-
--- the first refusal for these input bytes, if there is one: a journal comes last
-abbrev pub refusal_of : Asked → (Role → List ℕ) → Option Status
-refusal_of (asks_sim s schedule) bytes = inputs_refusal s bytes
-refusal_of (asks_run s) bytes = inputs_refusal s bytes
-refusal_of (asks_audit s) bytes = first_refusal (inputs_refusal s bytes) (journal_refusal (journal_read s bytes))
-refusal_of (asks_fail f) bytes = first_refusal (inputs_refusal f.network bytes) (journal_refusal (journal_read f.network bytes))
-refusal_of (asks_check c) bytes = script_refusal (script_of c.kind (names_of c.instances) (bytes Script))
-refusal_of (asks_gen g) bytes = None
-refusal_of (asks_published p schedule) bytes = trace_refusal (capture_of (bytes Trace))
-refusal_of (asks_strong s schedule) bytes = trace_refusal (capture_of (bytes Trace))
-
--- the first refusal for what a command reads before this input, if there is one
-abbrev pub earlier_refusal : Asked → Role → (Role → List ℕ) → Option Status
-earlier_refusal (asks_sim s schedule) Trace bytes = script_refusal (given_script s (bytes Script))
-earlier_refusal (asks_run s) Trace bytes = script_refusal (given_script s (bytes Script))
-earlier_refusal (asks_audit s) Trace bytes = script_refusal (given_script s (bytes Script))
-earlier_refusal (asks_audit s) JournalIn bytes = inputs_refusal s bytes
-earlier_refusal (asks_fail f) Trace bytes = script_refusal (given_script f.network (bytes Script))
-earlier_refusal (asks_fail f) JournalIn bytes = inputs_refusal f.network bytes
-earlier_refusal asked role bytes = None
-
 -- the choices of a journal aren't a complete run, which shows at this step
 pub record TellsNoRun (s : NetworkAsked) (bytes : Role → List ℕ) (step : ℕ) : Type 0 where
   pub choices : List Choice
@@ -153,35 +88,6 @@ AreResults (asks_check c) bytes made = (made.choices ≡ []) × IsCheckText c (b
 AreResults (asks_gen g) bytes made = (made.choices ≡ []) × AreGenTexts g (made.texts TraceOut) (made.texts Report)
 AreResults (asks_published p schedule) bytes made = IsUpdated p bytes schedule made
 AreResults (asks_strong s schedule) bytes made = IsShared s bytes schedule made
-
--- the command's inputs hold these bytes, as the outside tells
-abbrev pub HasInput : Asked → (Role → Meaning) → (Role → List ℕ) → Type 0
-HasInput asked old bytes = (role : Role) → IsTrue (is_input asked role) → (old role).left ≡ Some (bytes role)
-
--- the command's inputs were read to their end
-abbrev pub IsRead : Asked → (Role → Meaning) → Type 0
-IsRead asked new = (role : Role) → IsTrue (is_input asked role) → (new role).left ≡ Some []
-
--- each role has the name that the words give it
-abbrev pub IsBound : Asked → (Role → Meaning) → Type 0
-IsBound asked new = (role : Role) → (new role).name ≡ file_for asked role
-
--- nothing went to any file that holds results
-abbrev pub WroteNothing : (old new : Role → Meaning) → Type 0
-WroteNothing old new = (role : Role) → role ≢ Errors → (new role).written ≡ (old role).written
-
--- nothing went to a file that isn't a result of the command
-abbrev pub WroteResultsAlone : Asked → (old new : Role → Meaning) → Type 0
-WroteResultsAlone asked old new =
-    (role : Role) → is_result asked role ≡ false → role ≢ Errors → (new role).written ≡ (old role).written
-
--- these roles have their texts after what they had
-abbrev pub Gained : (Role → Bool) → (Role → List ℕ) → (old new : Role → Meaning) → Type 0
-Gained which texts old new = (role : Role) → IsTrue (which role) → Appends (old role).written (new role).written (texts role)
-
--- nothing went to these roles
-abbrev pub Unwritten : (Role → Bool) → (old new : Role → Meaning) → Type 0
-Unwritten which old new = (role : Role) → IsTrue (which role) → (new role).written ≡ (old role).written
 
 -- the inputs were read to their end, nothing refuses them, and `P` holds of what the command gives for them
 pub record HasResults (asked : Asked) (bytes : Role → List ℕ) (new : Role → Meaning) (P : RunResults → Type 0) : Type 0 where
@@ -275,10 +181,6 @@ RefusesWords status = (status ≡ Usage) ⊎ (status ≡ NoMemory)
 abbrev pub CauseOf : Option Asked → (old new : Role → Meaning) → Outcome → Type 0
 CauseOf None old new outcome = RefusesWords outcome.status × WroteNothing old new × (outcome.choices ≡ [])
 CauseOf (Some asked) old new outcome = RowOf asked old new outcome
-
--- a role has no name, or the one that the words give it
-abbrev pub MayBind : Option Asked → (Role → Meaning) → Type 0
-MayBind request new = (role : Role) → ((new role).name ≡ None) ⊎ ((new role).name ≡ option_and_then (λ asked. file_for asked role) request)
 
 -- a line went to the standard error, or a front of it where its count of faults rose
 abbrev pub PutsLine : List ℕ → (old new : Meaning) → Type 0

@@ -1,25 +1,17 @@
 //! The command `audit`: the run that a journal tells, again.
-ghost use Rattle.std.specs.Prelude.{◌≡◌, MatchResult, [], drop};
-ghost use Rattle.std.specs.Option.{ForSome};
-ghost use Rattle.nf_io.specs.declared.outside.Role.TheVariants.{JournalIn as JournalRole};
-ghost use Rattle.nf_io.specs.Meaning.{CanRead};
-ghost use Rattle.journal_file.specs.Reading.{GivesFrom, HasReadCause, count_of, journal_of, looked_at};
+ghost use Rattle.std.specs.Prelude.{◌≡◌, MatchResult, []};
 ghost use Rattle.command_words.specs.Requests.{asks_audit};
 ghost use Rattle.command_words.specs.RequestViews.{network_view};
 ghost use Rattle.opennf_calls.specs.Again.{AuditLaw};
-ghost use Rattle.opennf_calls.specs.Outcome.{IsBound, ForResults, RowOf};
-ghost use Rattle.opennf_calls.specs.Phases.{OnlyRead, Performs, ReadAlone, gives};
+ghost use Rattle.call_files.specs.Files.{IsBound};
+ghost use Rattle.opennf_calls.specs.Outcome.{ForResults, RowOf};
+ghost use Rattle.call_files.specs.Phases.{OnlyRead, gives};
+ghost use Rattle.opennf_calls.specs.Ended.{Performs};
 
-use crate::inputs::read_inputs;
-use crate::network::{Made, run_told};
-use crate::outcome::Outcome;
-use crate::results::write_report;
-use crate::status::Status;
-use actor_net::Choices;
+use call_files::{Made, Outcome, Status, read_choices, read_inputs, write_report};
 use command_words::Auditing;
-use journal_file::{JournalFault, read_journal_from};
-use nf_function::Kind;
-use nf_io::{Outside, Role, RoleSource};
+use network_calls::run_told;
+use nf_io::Outside;
 use std::alloc::Global;
 
 /// Reads the script, the capture and the journal, whose files are bound, and writes the report of the run that the journal tells.
@@ -47,26 +39,6 @@ fn make<O: Outside>(alloc: Global, asked: &Auditing<'_>, outside: &mut O) -> Res
     let count = network.instances.rows.len() as u8;
     let choices = read_choices(alloc, network.kind, count, outside)?;
     run_told(alloc, network, inputs, choices)
-}
-
-/// Reads the journal of so many instances.
-pub(crate) fn read_choices<O: Outside>(
-    alloc: Global,
-    kind: Kind,
-    instances: u8,
-    outside: &mut O,
-) -> Result<Choices, JournalFault>
-    requires { CanRead JournalRole (O.seen outside.old JournalRole) }
-    ensures journal { ForSome (O.seen outside.old JournalRole).left (λ bytes.
-        GivesFrom (journal_of kind instances bytes) (drop (looked_at (count_of kind instances bytes)) bytes) (O.seen outside.new JournalRole).left result) }
-    ensures cause { HasReadCause (O.seen outside.old JournalRole).faults (O.seen outside.new JournalRole).faults result }
-    ensures alone { ReadAlone JournalRole (O.seen outside.old) (O.seen outside.new) }
-{
-    let mut source = RoleSource {
-        outside,
-        role: Role::JournalIn,
-    };
-    read_journal_from(alloc, &mut source, kind, instances)
 }
 
 /// The law of audits: with the same words and inputs, that of the journal of a run isn't refused, and its report is the same.

@@ -3,12 +3,12 @@ ghost use Rattle.std.specs.Prelude.{MatchResult, []};
 ghost use Rattle.nf_io.specs.declared.outside.Role.TheVariants.{Script as ScriptRole};
 ghost use Rattle.command_words.specs.Requests.{asks_check};
 ghost use Rattle.command_words.specs.RequestViews.{check_view};
-ghost use Rattle.opennf_calls.specs.Outcome.{IsBound, ForResults, RowOf};
-ghost use Rattle.opennf_calls.specs.Phases.{GivesReport, Performs, ReadAlone};
+ghost use Rattle.call_files.specs.Files.{IsBound};
+ghost use Rattle.opennf_calls.specs.Outcome.{ForResults, RowOf};
+ghost use Rattle.call_files.specs.Phases.{GivesReport, ReadAlone};
+ghost use Rattle.opennf_calls.specs.Ended.{Performs};
 
-use crate::inputs::read_said;
-use crate::status::Status;
-use crate::writing::put;
+use call_files::{Status, put, read_said};
 use command_words::Checking;
 use flow_filter::Text;
 use nf_io::{Outside, Role};

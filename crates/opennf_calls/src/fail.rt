@@ -2,17 +2,14 @@
 ghost use Rattle.std.specs.Prelude.{◌≡◌, MatchResult, []};
 ghost use Rattle.command_words.specs.Requests.{asks_fail};
 ghost use Rattle.command_words.specs.RequestViews.{fail_view};
-ghost use Rattle.opennf_calls.specs.Outcome.{IsBound, ForResults, RowOf};
-ghost use Rattle.opennf_calls.specs.Phases.{GivesReport, OnlyRead, Performs};
+ghost use Rattle.call_files.specs.Files.{IsBound};
+ghost use Rattle.opennf_calls.specs.Outcome.{ForResults, RowOf};
+ghost use Rattle.call_files.specs.Phases.{GivesReport, OnlyRead};
+ghost use Rattle.opennf_calls.specs.Ended.{Performs};
 
-use crate::audit::read_choices;
-use crate::failing::run_failed;
-use crate::inputs::read_inputs;
-use crate::network::Made;
-use crate::outcome::Outcome;
-use crate::results::write_report;
-use crate::status::Status;
+use call_files::{Made, Outcome, Status, read_choices, read_inputs, write_report};
 use command_words::FailRequest;
+use network_calls::run_failed;
 use nf_io::Outside;
 use std::alloc::Global;
 

@@ -3,13 +3,12 @@ ghost use Rattle.nf_io.specs.declared.outside.Role.TheVariants.{TraceOut as Trac
 ghost use Rattle.trace_reader.specs.Generated.{capture};
 ghost use Rattle.command_words.specs.Requests.{asks_gen};
 ghost use Rattle.command_words.specs.RequestViews.{gen_view};
-ghost use Rattle.opennf_calls.specs.Outcome.{IsBound, gen_line};
-ghost use Rattle.opennf_calls.specs.Phases.{Performs};
-ghost use Rattle.opennf_calls.specs.Writing.{Wrote, all_of};
+ghost use Rattle.call_files.specs.Files.{IsBound};
+ghost use Rattle.opennf_calls.specs.Outcome.{gen_line};
+ghost use Rattle.opennf_calls.specs.Ended.{Performs};
+ghost use Rattle.call_files.specs.Writing.{Wrote, all_of};
 
-use crate::error_line::Line;
-use crate::status::Status;
-use crate::writing::put;
+use call_files::{Line, Status, put};
 use command_words::Generating;
 use itoa::Buffer;
 use nf_io::{Outside, Role, RoleSink};

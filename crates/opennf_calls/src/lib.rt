@@ -13,31 +13,15 @@
 
 pub mod audit;
 pub mod check;
-pub mod error_line;
 pub mod fail;
-mod failing;
-pub mod functions;
 pub mod generate;
-pub mod inputs;
 pub mod laws;
-pub mod network;
-pub mod outcome;
 pub mod published;
-mod ranges;
-pub mod results;
 pub mod run;
-mod sharing;
 pub mod sim;
-pub mod status;
 pub mod strong;
-pub mod threads;
 pub mod top;
-mod update;
-pub mod writing;
 
-pub use net_world::{Config, Node};
-pub use outcome::Outcome;
-pub use run_headline::{Head, audit as audited, report};
-pub use run_input::{Setting, input_of};
-pub use status::{JournalKind, Status, TraceKind};
+pub use call_files::{JournalKind, Outcome, Setting, Status, TraceKind, input_of};
+pub use network_calls::{Config, Head, Node, audit as audited, report, run_network};
 pub use top::{opennf_calm, opennf_run, opennf_top, opennf_unread};

@@ -2,17 +2,15 @@
 ghost use Rattle.std.specs.Prelude.{◌≡◌, MatchResult, []};
 ghost use Rattle.command_words.specs.Requests.{asks_published};
 ghost use Rattle.command_words.specs.RequestViews.{published_view};
-ghost use Rattle.opennf_calls.specs.Outcome.{IsBound, ForResults, RowOf};
-ghost use Rattle.opennf_calls.specs.Phases.{GivesReport, OnlyRead, Performs};
+ghost use Rattle.call_files.specs.Files.{IsBound};
+ghost use Rattle.opennf_calls.specs.Outcome.{ForResults, RowOf};
+ghost use Rattle.call_files.specs.Phases.{GivesReport, OnlyRead};
+ghost use Rattle.opennf_calls.specs.Ended.{Performs};
 
-use crate::inputs::read_packets;
-use crate::network::Made;
-use crate::outcome::Outcome;
-use crate::results::write_report;
-use crate::status::Status;
-use crate::update::run_update;
 use actor_net::Schedule;
+use call_files::{Made, Outcome, Status, read_packets, write_report};
 use command_words::Publishing;
+use network_calls::run_update;
 use nf_io::Outside;
 use std::alloc::Global;
 

@@ -2,16 +2,15 @@
 ghost use Rattle.std.specs.Prelude.{◌≡◌, MatchResult, [], ◌∷◌};
 ghost use Rattle.command_words.specs.Requests.{asks_sim};
 ghost use Rattle.command_words.specs.RequestViews.{network_view};
-ghost use Rattle.opennf_calls.specs.Outcome.{IsBound, ForResults, RowOf};
-ghost use Rattle.opennf_calls.specs.Phases.{OnlyRead, Performs, gives};
+ghost use Rattle.call_files.specs.Files.{IsBound};
+ghost use Rattle.opennf_calls.specs.Outcome.{ForResults, RowOf};
+ghost use Rattle.call_files.specs.Phases.{OnlyRead, gives};
+ghost use Rattle.opennf_calls.specs.Ended.{Performs};
 
-use crate::inputs::read_inputs;
-use crate::network::{Made, run_scheduled};
-use crate::outcome::Outcome;
-use crate::results::write_results;
-use crate::status::Status;
 use actor_net::Schedule;
+use call_files::{Made, Outcome, Status, read_inputs, write_results};
 use command_words::NetworkRequest;
+use network_calls::run_scheduled;
 use nf_io::Outside;
 use std::alloc::Global;
 

@@ -3,8 +3,9 @@ use Rattle.std.proofs.Common.{ℕ, List, [], refl, subst}
 use Rattle.nf_io.specs.declared.outside.Role.TheVariants.{Script, Report}
 use Rattle.command_words.specs.Requests.{asks_check}
 use Rattle.command_words.specs.RequestViews.{check_view}
-use Rattle.opennf_calls.specs.Writing.{Wrote, all_of, front_of}
-use Rattle.opennf_calls.proofs.RowLemmas.{ends, one_file-check, one_read, report_alone, report_failed, report_written}
+use Rattle.call_files.specs.Writing.{Wrote, all_of, front_of}
+use Rattle.opennf_calls.proofs.RowLemmas.{ends, one_file-check, report_alone, report_failed, report_written}
+use Rattle.call_files.proofs.ReadRoles.{one_read}
 use Rattle.opennf_calls.proofs.check.check.Goals as goal
 
 pub returns-in-Err : goal.returns-in-Err

@@ -6,10 +6,11 @@ use Rattle.op_script.specs.Reading.{script_of}
 use Rattle.command_words.specs.Requests.{asks_check}
 use Rattle.command_words.specs.Values.{names_of}
 use Rattle.command_words.specs.RequestViews.{check_view}
-use Rattle.opennf_calls.specs.Outcome.{script_refusal}
-use Rattle.opennf_calls.specs.Phases.{ScriptFails, ScriptRead}
-use Rattle.opennf_calls.proofs.ScriptLemmas.{check_fails}
-use Rattle.opennf_calls.proofs.RowLemmas.{input_alone, one_file-check, one_read}
+use Rattle.call_files.specs.Refusals.{script_refusal}
+use Rattle.call_files.specs.Phases.{ScriptFails, ScriptRead}
+use Rattle.opennf_calls.proofs.CheckRows.{check_fails}
+use Rattle.opennf_calls.proofs.RowLemmas.{input_alone, one_file-check}
+use Rattle.call_files.proofs.ReadRoles.{one_read}
 use Rattle.opennf_calls.proofs.check.read_canonical.Goals as goal
 
 pub returns-in-Err-clause-row : goal.returns-in-Err-clause-row

@@ -5,7 +5,7 @@ use Rattle.trace_reader.specs.Generated.{capture}
 use Rattle.command_words.specs.Requests.{asks_gen}
 use Rattle.command_words.specs.RequestViews.{gen_view}
 use Rattle.opennf_calls.specs.Outcome.{gen_line}
-use Rattle.opennf_calls.specs.Writing.{Wrote, all_of, front_of}
+use Rattle.call_files.specs.Writing.{Wrote, all_of, front_of}
 use Rattle.opennf_calls.proofs.MakingLemmas.{gen_made, gen_writes, gen_texts, none_read}
 use Rattle.opennf_calls.proofs.TwoResults.{both_written, second_failed}
 use Rattle.opennf_calls.proofs.generate.generate.Goals as goal

@@ -2,7 +2,7 @@
 use Rattle.std.proofs.lemmas.Result.{err_from_is_err_and}
 use Rattle.command_words.specs.Requests.{asks_sim}
 use Rattle.command_words.specs.RequestViews.{network_view}
-use Rattle.opennf_calls.specs.Phases.{scenario_of, gives}
+use Rattle.call_files.specs.Phases.{scenario_of, gives}
 use Rattle.opennf_calls.proofs.RunRows.{fails_row, sim_reads, sim_results}
 use Rattle.opennf_calls.proofs.sim.make.Goals as goal
 

@@ -2,8 +2,8 @@
 use Rattle.std.proofs.Common.{rules, ◌≡◌, ◌∙◌}
 use Rattle.nf_io.specs.declared.outside.Role.TheVariants.{Errors}
 use Rattle.nf_io.specs.Meaning.{as_named}
-use Rattle.opennf_calls.specs.Status.{line_of}
-use Rattle.opennf_calls.proofs.BoundFiles.{same_named}
+use Rattle.call_files.specs.Status.{line_of}
+use Rattle.call_files.proofs.BoundFiles.{same_named}
 use Rattle.opennf_calls.proofs.CompleteLemmas.{complete}
 use Rattle.opennf_calls.proofs.LastLineLemmas.{cause_around, line_after, names_after, puts_line}
 use Rattle.opennf_calls.proofs.top.tell.Goals as goal

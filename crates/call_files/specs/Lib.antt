@@ -1,0 +1,10 @@
+pub mod CaptureScenes
+pub mod Command
+pub mod Files
+pub mod LineRoom
+pub mod Phases
+pub mod Refusals
+pub mod Scenarios
+pub mod Status
+pub mod Writing
+pub use Rattle.run_input

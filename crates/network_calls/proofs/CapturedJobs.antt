@@ -1,0 +1,62 @@
+-- The packets of a capture, and what the words say, are an update, and can be shared.
+use Rattle.std.proofs.Common.{◌≤◌, ◌<◌, ◌^◌, length, refl, arith, ◌≡◌, ℕ, ◌+◌, List, [], ◌∷◌, map, ap, ◌∙◌}
+use Rattle.std.specs.Prelude.{All}
+use Rattle.flow_filter.specs.Filter.{IsFilter}
+use Rattle.flow_filter.specs.Limits.{most_packets}
+use Rattle.trace_reader.specs.declared.trace.Trace.{Trace as Captured}
+use Rattle.trace_reader.specs.Records.{AreNumbered}
+use Rattle.command_words.specs.declared.request.Publishing.{Publishing}
+use Rattle.command_words.specs.Requests.{StrongAsked}
+use Rattle.command_words.specs.RequestViews.{published_view, strong_view}
+use Rattle.net_world.specs.Input.{IsSteered}
+use Rattle.call_files.specs.run_input.proofs.ScriptedOrders.{numbers_rise}
+use Rattle.two_phase.specs.Start.{IsUpdateJob}
+use Rattle.network_calls.specs.UpdateRuns.{scene_of, update_for}
+use Rattle.std.specs.List.{range_with_len}
+use Rattle.flow_filter.specs.declared.packet.Packet.{Packet}
+use Rattle.command_words.specs.declared.request.StrongRequest.{StrongRequest}
+use Rattle.strong_share.specs.Start.{job_of}
+use Rattle.call_files.specs.CaptureScenes.{CaptureScene}
+use Rattle.network_calls.specs.RunSteps.{CanShare}
+use Rattle.network_calls.specs.StrongRuns.{sharing_for, sharing_scene}
+
+-- the packets of a capture, and what the words say, are an update
+pub is_update : (asked : Publishing) (captured : Captured) → asked.site.inside.bits < 2 ^ 32 → IsFilter asked.filter → AreNumbered 1 captured.packets
+    → All (IsSteered asked.site) captured.packets → length captured.packets ≤ most_packets
+    → IsUpdateJob asked.kind (update_for (published_view asked) (scene_of asked captured))
+is_update asked captured site filter numbers steered few = record {
+  window = asked.window_in_range;
+  site = site;
+  filter = record { numbers = filter; whole = asked.whole };
+  steered = steered;
+  numbers = numbers_rise 1 1 captured.packets (omega arith) numbers;
+  few = few;
+}
+
+-- packets that are numbered in order have the numbers from the first on
+numbers_from : (n : ℕ) (ps : List Packet) → AreNumbered n ps → map (λ (p : Packet). p.number) ps ≡ range_with_len n (length ps)
+numbers_from n [] h = refl
+numbers_from n (p ∷ ps) h =
+    ap (λ k. k ∷ map (λ (q : Packet). q.number) ps) h.0 ∙ ap (λ ks. n ∷ ks) (numbers_from (n + 1) ps h.1)
+
+-- the packets of a capture, and what the words say, can be shared
+pub can_share : (asked : StrongRequest) (captured : Captured) → asked.site.inside.bits < 2 ^ 32 → IsFilter asked.filter → AreNumbered 1 captured.packets
+    → All (IsSteered asked.site) captured.packets → length captured.packets ≤ most_packets
+    → CanShare (strong_view asked) (sharing_scene asked captured)
+can_share asked captured site filter numbers steered few = record {
+  job = record {
+    some = asked.some;
+    few = asked.few;
+    window = asked.window_in_range;
+    site = site;
+    filter = record { numbers = filter; whole = asked.whole };
+    steered = steered;
+    numbers = numbers_from 1 captured.packets numbers;
+  };
+  few = few;
+}
+
+-- the sharing by so many members as the words name
+pub same_sharing : (s : StrongAsked) (scene : CaptureScene) (members : ℕ) → members ≡ length s.names
+    → job_of scene.site s.window members scene.filter scene.captured.packets ≡ sharing_for s scene
+same_sharing s scene members same = ap (λ (n : ℕ). job_of scene.site s.window n scene.filter scene.captured.packets) same

@@ -1,0 +1,42 @@
+-- A run of an input that ends once has few choices, and as long as something is left to do some choice is enabled. So a schedule comes to the end.
+use Rattle.std.proofs.Common.{◌≡◌, ℕ, ◌≤◌, true, List, sym, subst, arith}
+use Rattle.std.specs.declared.alloc.Global.{Global}
+use Rattle.std.proofs.lemmas.Bool.Decides.{Decides-eqb}
+use Rattle.nf_function.specs.Records.{Laws as FunctionLaws}
+use Rattle.nf_function.specs.Semantics.{Semantics}
+use Rattle.nf_msgs.specs.declared.msg.Msg.{Msg}
+use Rattle.actor_net.specs.declared.schedule.Schedule.{Schedule}
+use Rattle.actor_net.specs.declared.schedule.TheConstants.{MOST_CHOICES}
+use Rattle.actor_net.specs.Network.{run}
+use Rattle.actor_net.specs.Schedules.{StopsShort}
+use Rattle.actor_net.proofs.ScheduleLaws.{scheduled_is_run}
+use Rattle.net_world.specs.Length.{ends, has_end, IsShort}
+use Rattle.run_headline.specs.nf_net.proofs.length.RunLength.{run_length}
+use Rattle.run_headline.specs.nf_net.proofs.length.ShortRuns.{short_runs}
+use Rattle.run_headline.specs.nf_net.proofs.ends.NoStuckWorld.{no_stuck_world, never_short}
+use Rattle.net_world.specs.declared.config.Config.{Config}
+use Rattle.net_world.specs.Input.{IsInput}
+use Rattle.net_world.specs.Nodes.{node_ended, node_ready, node_step}
+use Rattle.net_world.specs.Runs.{choices_of, StopsAt}
+use Rattle.net_world.specs.Start.{started_with}
+use Rattle.network_calls.specs.Ends.{EndLaw}
+
+some_end : (items : List Msg) → has_end items ≡ true → 1 ≤ ends items
+some_end items ended = let once = (Decides-eqb (ends items) 1).0 ended in omega (arith, once)
+
+module _ (F : Type 0) {R : Type 0} (f : Semantics R) (laws : FunctionLaws f) where
+  pub end_law : EndLaw F f
+  end_law alloc config items choices is ended runs = record {
+    few = run_length F f laws alloc config items is ended choices runs;
+    goes_on = no_stuck_world F f laws alloc config items is (some_end items ended) choices runs;
+    short = λ short. short_runs F f laws alloc config items is short choices runs;
+  }
+
+  -- no schedule stops before the end of a short input's run
+  pub never_stops : (alloc : Global) (config : Config) (items : List Msg) → IsInput f.kind config items → IsShort items → (schedule : Schedule) (step : ℕ)
+      → StopsAt {F = F} f (started_with alloc config items) schedule step → ⊥
+  never_stops alloc config items is short schedule step stops =
+      let first = started_with {F = F} {R = R} alloc config items in
+      let runs = scheduled_is_run node_ready node_ended (node_step f) MOST_CHOICES schedule first in
+      never_short F f laws alloc config items is short (choices_of f first schedule) runs
+      (subst (λ k. StopsShort node_ready node_ended (run (node_step f) (choices_of f first schedule) first) k) (sym stops.count) stops.short)

@@ -1,0 +1,8 @@
+-- The function that the words name is the one that runs, as it is told.
+use Rattle.command_words.specs.RequestViews.{network_view}
+use Rattle.call_files.specs.Phases.{scenario_of}
+use Rattle.network_calls.proofs.RunLemmas.{told_kind}
+use Rattle.network_calls.proofs.network.run_told.Goals as goal
+
+pub returns : goal.returns
+returns c = told_kind (network_view c.args.asked.now) (scenario_of c.args.asked.now.site c.args.inputs) c.args.choices c.for_kind.result c.for_kind.ensures

@@ -1,0 +1,45 @@
+-- The run of a schedule is that of the words, the script and the capture. The schedule comes to its end.
+use Rattle.std.proofs.Common.{Some, Err, ap, sym, ◌≡◌, ◌∙◌, subst}
+use Rattle.nf_function.specs.declared.kind.Kind.{Kind}
+use Rattle.command_words.specs.RequestViews.{network_view}
+use Rattle.run_headline.specs.nf_net.proofs.length.ShortRuns.{short_runs}
+use Rattle.net_world.specs.Input.{IsInput}
+use Rattle.net_world.specs.Runs.{LeadsTo, choices_of}
+use Rattle.net_world.specs.Start.{started_with}
+use Rattle.call_files.specs.Phases.{scenario_of}
+use Rattle.network_calls.proofs.RunLemmas.{run_of}
+use Rattle.network_calls.proofs.RunsEnd.{never_stops}
+use Rattle.network_calls.proofs.network.schedule_network.Goals as goal
+
+pub unreachable-requires : goal.unreachable-requires
+unreachable-requires g c =
+    let opening = c.in_ok-config.field-0 in
+    let is = c.in_ok-config.ensures in
+    let input = subst (λ (k : Kind). IsInput k opening.config opening.items.items) (sym c.requires.kind) is.is_input in
+    never_stops g.row.F.Denot g.F.Function.semantics g.met.F.Function.laws c.args.alloc opening.config opening.items.items input is.short c.args.schedule
+    c.in-Err-Unfinished._step (c.in-Err-Unfinished.ensures.unfinished c.in-Err-Unfinished._step (ap Err c.in-Err-Unfinished.field-0-is))
+
+pub returns : goal.returns
+returns g c =
+    let f = g.F.Function.semantics in
+    let opening = c.in_ok-config.field-0 in
+    let is = c.in_ok-config.ensures in
+    let start = started_with {F = g.row.F.Denot} {R = g.row.F-Record.Denot} c.args.alloc opening.config opening.items.items in
+    let input = subst (λ (k : Kind). IsInput k opening.config opening.items.items) (sym c.requires.kind) is.is_input in
+    let leads = subst (λ cs. LeadsTo f start cs c.in-Ok.ended.0) (sym c.in-Ok.ensures.choices) c.in-Ok.ensures.end.leads in
+    run_of g.row.F.Denot f (network_view c.args.asked.now) (scenario_of c.args.asked.now.site c.args.inputs) c.args.alloc opening.config opening.items.items
+    opening.head is.config is.items
+    g.met.F.Function.laws (Some c.args.schedule) (record { choices = c.in-Ok.ended.1; report = c.in_ok-report.report }) c.in-Ok.ended.0
+    (record {
+      leads = leads;
+      complete = c.in-Ok.ensures.end.complete;
+      promises = c.in-Ok.ensures.promises;
+      verdicts = c.in-Ok.ensures.verdicts;
+      standbys = c.in-Ok.ensures.standbys;
+      completed = c.in-Ok.ensures.completed;
+      home = c.in-Ok.ensures.home;
+      few = short_runs g.row.F.Denot f g.met.F.Function.laws c.args.alloc opening.config opening.items.items input is.short c.in-Ok.ended.1 leads.is_run;
+      input = is.is_input;
+      kind = c.requires.kind;
+    }) (λ schedule same. let by : c.args.schedule ≡ schedule = cc in c.in-Ok.ensures.choices ∙ ap (λ k. choices_of {F = g.row.F.Denot} f start k) by)
+    is.head c.in_ok-report.ensures

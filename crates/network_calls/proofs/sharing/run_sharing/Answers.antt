@@ -1,0 +1,22 @@
+-- The function that the words name is the one that runs, over what was read.
+use Rattle.std.proofs.Common.{refl}
+use Rattle.command_words.specs.RequestViews.{strong_view}
+use Rattle.call_files.specs.run_input.proofs.SteeredPackets.{are_steered}
+use Rattle.call_files.specs.Phases.{reports}
+use Rattle.network_calls.specs.StrongRuns.{IsSharingOf, sharing_scene}
+use Rattle.function_kinds.proofs.FunctionLemmas.{ok_of_kind}
+use Rattle.network_calls.proofs.CapturedJobs.{can_share}
+use Rattle.network_calls.proofs.sharing.run_sharing.Goals as goal
+
+pub for_kind-requires : goal.for_kind-requires
+for_kind-requires c = (
+  refl,
+  can_share c.args.asked.now c.args.trace c.are_in_range.ensures.site c.are_in_range.ensures.filter c.requires.numbers
+      (are_steered c.args.asked.now.site c.args.trace.packets c.are_in_range.ensures.site c.requires.steered c.requires.in_range) c.requires.few,
+)
+
+pub returns : goal.returns
+returns c =
+    let s = strong_view c.args.asked.now in
+    ok_of_kind s.kind c.for_kind.result (λ made R F f. IsSharingOf F f s (sharing_scene c.args.asked.now c.args.trace) c.args.schedule (reports made))
+    c.for_kind.ensures

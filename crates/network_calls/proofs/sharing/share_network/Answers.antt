@@ -1,0 +1,62 @@
+-- The sharing of a schedule is that of the words and the capture. The schedule comes to its end.
+use Rattle.std.proofs.Common.{◌≡◌, arith, refl, rules, subst, sym}
+use Rattle.nf_function.specs.declared.kind.Kind.{Kind}
+use Rattle.command_words.specs.RequestViews.{strong_view}
+use Rattle.strong_share.specs.Promises.{StrongCompleted, StrongEnds, StrongPromises}
+use Rattle.strong_share.specs.Runs.{LeadsTo, choices_of}
+use Rattle.strong_share.specs.Start.{IsStrongJob, StrongJob, strong_start}
+use Rattle.run_headline.specs.Strong.{HasStrongHeadline}
+use Rattle.run_headline.specs.StrongLaw.{IsStrongRun, strong_subject}
+use Rattle.run_headline.proofs.others.StrongTexts.{strong_law}
+use Rattle.network_calls.specs.StrongRuns.{sharing_for, sharing_scene}
+use Rattle.network_calls.proofs.CapturedJobs.{same_sharing}
+use Rattle.network_calls.proofs.sharing.share_network.Goals as goal
+
+pub simulate_strong-ended-requires : goal.simulate_strong-ended-requires
+simulate_strong-ended-requires g c =
+    let s = strong_view c.args.asked.now in
+    let scene = sharing_scene c.args.asked.now c.args.trace in
+    subst (λ (j : StrongJob). IsStrongJob g.F.Function.semantics.kind j)
+    (sym (same_sharing s scene c.member_count-members.result c.member_count-members.ensures))
+    (subst (λ (k : Kind). IsStrongJob k (sharing_for s scene)) (sym c.requires.kind) c.requires.sound.job)
+
+pub unreachable-requires : goal.unreachable-requires
+unreachable-requires g c =
+    let more = c.in-Err-Unfinished.ensures-1.unfinished c.in-Err-Unfinished._step (search rules) in
+    let few = c.requires.sound.few in
+    omega (arith, more, few)
+
+pub returns : goal.returns
+returns g c =
+    let f = g.F.Function.semantics in
+    let alloc = c.args.alloc in
+    let s = strong_view c.args.asked.now in
+    let scene = sharing_scene c.args.asked.now c.args.trace in
+    let job = sharing_for s scene in
+    let same = same_sharing s scene c.member_count-members.result c.member_count-members.ensures in
+    let leads : LeadsTo f (strong_start alloc job) c.in-Ok.ended.1 c.in-Ok.ended.0 =
+    subst (λ (j : StrongJob). LeadsTo f (strong_start alloc j) c.in-Ok.ended.1 c.in-Ok.ended.0) same c.in-Ok.ensures.leads in
+    let is : IsStrongRun g.row.F.Denot f s.names job c.in-Ok.ended.0 = record {
+      is_job = subst (λ (k : Kind). IsStrongJob k job) (sym c.requires.kind) c.requires.sound.job;
+      members = refl;
+      alloc = alloc;
+      choices = c.in-Ok.ended.1;
+      leads = leads;
+      complete = c.in-Ok.ensures.complete;
+    } in
+    record {
+      alloc = alloc;
+      world = c.in-Ok.ended.0;
+      scheduled = subst (λ (j : StrongJob). c.in-Ok.ended.1 ≡ choices_of {F = g.row.F.Denot} f (strong_start alloc j) c.args.schedule) same
+          c.in-Ok.ensures.choices;
+      leads = leads;
+      complete = c.in-Ok.ensures.complete;
+      promises = subst (λ (j : StrongJob). StrongPromises f j c.in-Ok.ended.0) same c.in-Ok.ensures.promises;
+      completed = subst (λ (j : StrongJob). StrongCompleted f j c.in-Ok.ended.0) same c.in-Ok.ensures.completed;
+      ends = subst (λ (j : StrongJob). StrongEnds j c.in-Ok.ended.1 c.in-Ok.ended.0) same c.in-Ok.ensures.ends;
+      head = c.in_ok-head.head;
+      is_head = c.in_ok-head.ensures;
+      report = c.in_ok-report.ensures;
+      headline = subst (HasStrongHeadline (strong_subject f s.names job) scene.filter c.in_ok-head.head) (sym c.in_ok-report.ensures)
+          (strong_law g.row.F.Denot f g.met.F.Function.laws s.names job c.in-Ok.ended.0 is c.in_ok-head.head c.in_ok-head.ensures.names);
+    }

@@ -1,0 +1,29 @@
+-- The choices of the workers lead from the start to a world in which nothing is left to do.
+use Rattle.std.proofs.Common.{subst}
+use Rattle.run_headline.specs.nf_net.proofs.length.ShortRuns.{short_runs}
+use Rattle.net_world.specs.Runs.{LeadsTo}
+use Rattle.run_headline.specs.nf_net.proofs.EveryRun.{keeps_all}
+use Rattle.run_headline.specs.nf_net.proofs.JudgedRuns.{verdicts}
+use Rattle.run_headline.specs.nf_net.proofs.StandbyRuns.{standbys}
+use Rattle.network_calls.proofs.threads.run_network.Goals as goal
+
+pub returns : goal.returns
+returns g c =
+    let f = g.F.Function.semantics in
+    -- the function may be sent, so its laws hold in every thread, and in this one
+    let laws = (g.met.F.Function g.world.𝓛 g.world.𝓜 g.world.𝓡 ((λ s x. x), (λ x. x), (λ x. x), λ x. x)).laws in
+    let run = c.in_ok-world.ensures.run in
+    let leads = subst (λ v. LeadsTo {F = g.row.F.Denot} f v c.in_ok-world.choices c.in_ok-world.world) c.in_ok-opening.ensures
+    (record { is_run = run.0; reached = run.1 }) in
+    let all = keeps_all g.row.F.Denot f laws c.args.alloc c.args.config.now c.args.items.items c.requires c.in_ok-world.choices c.in_ok-world.world leads
+    c.in_ok-world.ensures.complete in
+    record {
+      leads = leads;
+      complete = c.in_ok-world.ensures.complete;
+      promises = all.promises;
+      verdicts = verdicts g.row.F.Denot f laws c.args.alloc c.args.config.now c.args.items.items c.requires c.in_ok-world.choices leads.is_run;
+      standbys = standbys g.row.F.Denot f laws c.args.alloc c.args.config.now c.args.items.items c.requires c.in_ok-world.choices leads.is_run;
+      completed = all.completed;
+      home = all.home;
+      few = λ short. short_runs g.row.F.Denot f laws c.args.alloc c.args.config.now c.args.items.items c.requires short c.in_ok-world.choices leads.is_run;
+    }

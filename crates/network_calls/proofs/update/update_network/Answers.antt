@@ -1,0 +1,51 @@
+-- The update of a schedule is that of the words and the capture. The schedule comes to its end.
+use Rattle.std.proofs.Common.{List, length, ap, sym, subst, ◌∙◌}
+use Rattle.flow_filter.specs.declared.packet.Packet.{Packet}
+use Rattle.nf_function.specs.declared.kind.Kind.{Kind}
+use Rattle.command_words.specs.RequestViews.{published_view}
+use Rattle.two_phase.specs.Report.{two_text}
+use Rattle.actor_net.specs.declared.schedule.TheConstants.{MOST_CHOICES}
+use Rattle.actor_net.specs.Network.{IsRun}
+use Rattle.actor_net.proofs.ScheduleLaws.{scheduled_is_run}
+use Rattle.two_phase.specs.Start.{IsUpdateJob, two_start}
+use Rattle.two_phase.specs.Tables.{node_ended, node_ready, node_step}
+use Rattle.run_headline.specs.Published.{HasPublishedHeadline}
+use Rattle.run_headline.specs.PublishedLaw.{IsTwoRun, two_subject}
+use Rattle.run_headline.proofs.others.TwoHeadlines.{published_law}
+use Rattle.network_calls.specs.UpdateRuns.{scene_of, update_for, update_head}
+use Rattle.network_calls.proofs.update.update_network.Goals as goal
+
+pub simulate_two-ended-requires : goal.simulate_two-ended-requires
+simulate_two-ended-requires g c =
+    subst (λ (k : Kind). IsUpdateJob k (update_for (published_view c.args.asked.now) (scene_of c.args.asked.now c.args.trace))) (sym c.requires.kind)
+    c.requires.sound
+
+pub returns : goal.returns
+returns g c =
+    let f = g.F.Function.semantics in
+    let p = published_view c.args.asked.now in
+    let trace = c.args.trace in
+    let job = update_for p (scene_of c.args.asked.now trace) in
+    let report = c.in_ok-report.ensures
+    ∙ ap (λ (l : List Packet). two_text f (record { kind = p.kind; window = p.window; packets = length l; skipped = trace.skipped; cut = trace.cut })
+    c.in-Ok.ended.0) c.items.ensures in
+    let is : IsTwoRun g.row.F.Denot f job c.in-Ok.ended.0 = record {
+      is_job = subst (λ (k : Kind). IsUpdateJob k job) (sym c.requires.kind) c.requires.sound;
+      alloc = c.args.alloc;
+      choices = c.in-Ok.ended.1;
+      is_run = subst (λ cs. IsRun node_ready (node_step f) cs (two_start {F = g.row.F.Denot} c.args.alloc job)) (sym c.in-Ok.ensures.choices)
+          (scheduled_is_run node_ready node_ended (node_step f) MOST_CHOICES c.args.schedule (two_start c.args.alloc job));
+      reached = c.in-Ok.ensures.world;
+      complete = c.in-Ok.ensures.complete;
+    } in
+    record {
+      alloc = c.args.alloc;
+      world = c.in-Ok.ended.0;
+      scheduled = c.in-Ok.ensures.choices;
+      reached = c.in-Ok.ensures.world;
+      complete = c.in-Ok.ensures.complete;
+      published = c.in-Ok.ensures.published;
+      report = report;
+      headline = subst (HasPublishedHeadline (two_subject f job) job.filter (update_head p trace)) (sym report)
+          (published_law g.row.F.Denot f g.met.F.Function.laws job c.in-Ok.ended.0 is (update_head p trace));
+    }

@@ -1,0 +1,100 @@
+//! A failover in the run of a network, for each function.
+ghost use Rattle.std.specs.Prelude.{◌≡◌, MatchResult};
+ghost use Rattle.command_words.specs.RequestViews.{fail_view, network_view};
+ghost use Rattle.network_calls.specs.FailRuns.{HasFailover, IsFailover};
+ghost use Rattle.network_calls.specs.NetworkRuns.{run_given};
+ghost use Rattle.call_files.specs.Phases.{CanBegin, reports, scenario_of};
+ghost use Rattle.network_calls.specs.RunSteps.{IsNoFailoverAs, IsRefusedFailover};
+
+use crate::network::{Opening, open, status_of};
+use actor_net::Choices;
+use call_files::{Inputs, Made, Status};
+use command_words::FailRequest;
+use function_kinds::{ForFunction, for_kind};
+use nf_function::Function;
+use run_headline::{Failing, packets_of, promote_with, report_failover};
+use std::alloc::Global;
+
+/// Takes the first of some choices, and makes the report of what is left where the instance fails.
+pub fn run_failed(
+    alloc: Global,
+    asked: &FailRequest<'_>,
+    inputs: Inputs,
+    choices: Choices,
+) -> Result<Made, Status>
+    requires { CanBegin (network_view asked.now.network) (scenario_of asked.now.network.site inputs) }
+    ensures { MatchResult result
+        (λ made. HasFailover (fail_view asked.now) (scenario_of asked.now.network.site inputs) choices (reports made))
+        (IsRefusedFailover (fail_view asked.now) (scenario_of asked.now.network.site inputs) choices) }
+{
+    let kind = asked.network.kind;
+    let failed = Failed {
+        alloc,
+        asked,
+        inputs,
+        choices,
+    };
+    for_kind(kind, failed)
+}
+
+/// A failover, for any function.
+#[derive(Drop)]
+struct Failed<'a, 'w> {
+    alloc: Global,
+    asked: &'a FailRequest<'w>,
+    inputs: Inputs,
+    choices: Choices,
+}
+
+impl ForFunction for Failed<'_, '_> {
+    type Output = Result<Made, Status>;
+
+    ghost may = { λ w kind. (kind ≡ w.asked.now.network.kind) × CanBegin (network_view w.asked.now.network) (scenario_of w.asked.now.network.site w.inputs) };
+
+    ghost gives = { λ w R F f r. MatchResult r
+        (λ made. IsFailover (run_given F f (network_view w.asked.now.network) (scenario_of w.asked.now.network.site w.inputs))
+        (fail_view w.asked.now) w.choices (reports made))
+        (IsNoFailoverAs (run_given F f (network_view w.asked.now.network) (scenario_of w.asked.now.network.site w.inputs)) (fail_view w.asked.now) w.choices) };
+
+    fn call<F: Function + Send>(self) -> Result<Made, Status>
+    where
+        F::Record: Send,
+    {
+        fail_network::<F>(self.alloc, self.asked, self.inputs, self.choices)
+    }
+}
+
+/// What is left where the instance fails, and its report.
+fn fail_network<F: Function>(
+    alloc: Global,
+    asked: &FailRequest<'_>,
+    inputs: Inputs,
+    choices: Choices,
+) -> Result<Made, Status>
+    requires kind { F.semantics.kind ≡ asked.now.network.kind }
+    requires sound { CanBegin (network_view asked.now.network) (scenario_of asked.now.network.site inputs) }
+    ensures { MatchResult result
+        (λ made. IsFailover (run_given F.row.Denot F.semantics (network_view asked.now.network) (scenario_of asked.now.network.site inputs))
+        (fail_view asked.now) choices (reports made))
+        (IsNoFailoverAs (run_given F.row.Denot F.semantics (network_view asked.now.network) (scenario_of asked.now.network.site inputs))
+        (fail_view asked.now) choices) }
+{
+    let Opening {
+        config,
+        items,
+        head,
+    } = open(alloc, &asked.network, inputs)?;
+    let trace = packets_of(alloc, items.as_slice())?;
+    let failing = Failing {
+        failed: asked.failed,
+        to: asked.to,
+        after: asked.after,
+    };
+    let mut choices = choices;
+    let promoted = match promote_with::<F>(alloc, &config, items, &trace, &mut choices, &failing) {
+        Ok(promoted) => promoted,
+        Err(fault) => return Err(status_of(fault)),
+    };
+    let (report, _table) = report_failover(alloc, &head, &failing, promoted, &config, &trace)?;
+    Ok(Made { choices, report })
+}

@@ -1,0 +1,125 @@
+//! Strong sharing, for each function.
+ghost use Rattle.std.specs.Prelude.{◌≡◌, ◌≤◌, true, All, IfOk, length};
+ghost use Rattle.flow_filter.specs.Limits.{most_packets};
+ghost use Rattle.trace_reader.specs.Records.{AreNumbered};
+ghost use Rattle.trace_reader.specs.Steered.{is_steered_proto};
+ghost use Rattle.flow_filter.specs.Packet.{IsInRange};
+ghost use Rattle.command_words.specs.RequestViews.{strong_view};
+ghost use Rattle.network_calls.specs.RunSteps.{CanShare};
+ghost use Rattle.call_files.specs.Phases.{reports};
+ghost use Rattle.network_calls.specs.StrongRuns.{HasSharing, IsSharingHead, IsSharingOf, sharing_scene};
+
+use crate::ranges::are_in_range;
+use actor_net::{Schedule, ScheduleFault};
+use basics::NoMemory;
+use call_files::Made;
+use command_words::StrongRequest;
+use function_kinds::{ForFunction, for_kind};
+use nf_function::Function;
+use std::alloc::Global;
+use strong_share::{StrongHead, report_strong, simulate_strong};
+use trace_reader::Trace;
+
+/// Runs strong sharing by a schedule. Its members have the function that the words name.
+pub fn run_sharing(
+    alloc: Global,
+    asked: &StrongRequest<'_>,
+    trace: Trace,
+    schedule: Schedule,
+) -> Result<Made, NoMemory>
+    requires numbers { AreNumbered 1 trace.packets }
+    requires steered { All (λ packet. is_steered_proto packet.proto ≡ true) trace.packets }
+    requires in_range { All IsInRange trace.packets }
+    requires few { length trace.packets ≤ most_packets }
+    ensures { IfOk result (λ made. HasSharing (strong_view asked.now) (sharing_scene asked.now trace) schedule (reports made)) }
+{
+    are_in_range(asked.site, asked.filter);
+    let kind = asked.kind;
+    let sharing = Sharing {
+        alloc,
+        asked,
+        trace,
+        schedule,
+    };
+    for_kind(kind, sharing)
+}
+
+/// Strong sharing, for any function.
+#[derive(Drop)]
+struct Sharing<'a, 'w> {
+    alloc: Global,
+    asked: &'a StrongRequest<'w>,
+    trace: Trace,
+    schedule: Schedule,
+}
+
+impl ForFunction for Sharing<'_, '_> {
+    type Output = Result<Made, NoMemory>;
+
+    ghost may = { λ w kind. (kind ≡ w.asked.now.kind) × CanShare (strong_view w.asked.now) (sharing_scene w.asked.now w.trace) };
+
+    ghost gives = { λ w R F f r. IfOk r (λ made. IsSharingOf F f (strong_view w.asked.now) (sharing_scene w.asked.now w.trace) w.schedule (reports made)) };
+
+    fn call<F: Function + Send>(self) -> Result<Made, NoMemory>
+    where
+        F::Record: Send,
+    {
+        share_network::<F>(self.alloc, self.asked, self.trace, self.schedule)
+    }
+}
+
+/// Runs strong sharing by a schedule, which comes to the end of the run.
+fn share_network<F: Function>(
+    alloc: Global,
+    asked: &StrongRequest<'_>,
+    trace: Trace,
+    schedule: Schedule,
+) -> Result<Made, NoMemory>
+    requires kind { F.semantics.kind ≡ asked.now.kind }
+    requires sound { CanShare (strong_view asked.now) (sharing_scene asked.now trace) }
+    ensures { IfOk result (λ made. IsSharingOf F.row.Denot F.semantics (strong_view asked.now) (sharing_scene asked.now trace) schedule (reports made)) }
+{
+    let head = head_of(asked, &trace)?;
+    let Trace { packets, .. } = trace;
+    let (site, window) = (asked.site, asked.window);
+    let members = member_count(asked);
+    let ended = simulate_strong::<F>(
+        alloc,
+        site,
+        window,
+        members,
+        asked.filter,
+        packets,
+        schedule,
+    );
+    let (world, choices) = match ended {
+        Ok(ended) => ended,
+        Err(ScheduleFault::Unfinished { step: _step }) => unreachable!(),
+        Err(ScheduleFault::NoMemory) => return Err(NoMemory),
+    };
+    let report = report_strong::<F>(alloc, &head, &world)?;
+    Ok(Made { choices, report })
+}
+
+/// How many members there are.
+fn member_count(asked: &StrongRequest<'_>) -> u8
+    ensures { result ≡ length asked.now.names }
+{
+    asked.names.items().len() as u8
+}
+
+/// What the report repeats of the words and the capture.
+fn head_of(asked: &StrongRequest<'_>, trace: &Trace) -> Result<StrongHead, NoMemory>
+    requires { length trace.now.packets ≤ most_packets }
+    ensures { IfOk result (IsSharingHead (strong_view asked.now) trace.now) }
+{
+    let names = asked.names.copy()?;
+    Ok(StrongHead {
+        kind: asked.kind,
+        names: names.into_vec(),
+        window: asked.window,
+        packets: trace.packets.items().len() as u32,
+        skipped: trace.skipped,
+        cut: trace.cut,
+    })
+}

@@ -1,0 +1,111 @@
+//! A two-phase update, for each function.
+ghost use Rattle.std.specs.Prelude.{◌≡◌, ◌≤◌, true, All, IfOk, length};
+ghost use Rattle.flow_filter.specs.Limits.{most_packets};
+ghost use Rattle.trace_reader.specs.Records.{AreNumbered};
+ghost use Rattle.trace_reader.specs.Steered.{is_steered_proto};
+ghost use Rattle.flow_filter.specs.Packet.{IsInRange};
+ghost use Rattle.command_words.specs.RequestViews.{published_view};
+ghost use Rattle.two_phase.specs.Start.{IsUpdateJob};
+ghost use Rattle.call_files.specs.Phases.{reports};
+ghost use Rattle.network_calls.specs.UpdateRuns.{HasUpdate, IsUpdateOf, scene_of, update_for};
+
+use crate::ranges::are_in_range;
+use actor_net::{Schedule, ScheduleFault};
+use basics::NoMemory;
+use call_files::Made;
+use command_words::Publishing;
+use function_kinds::{ForFunction, for_kind};
+use nf_function::Function;
+use std::alloc::Global;
+use trace_reader::Trace;
+use two_phase::{TwoHead, report_two, simulate_two};
+
+/// Runs an update by a schedule. Its instances have the function that the words name.
+pub fn run_update(
+    alloc: Global,
+    asked: &Publishing<'_>,
+    trace: Trace,
+    schedule: Schedule,
+) -> Result<Made, NoMemory>
+    requires numbers { AreNumbered 1 trace.packets }
+    requires steered { All (λ packet. is_steered_proto packet.proto ≡ true) trace.packets }
+    requires in_range { All IsInRange trace.packets }
+    requires few { length trace.packets ≤ most_packets }
+    ensures { IfOk result (λ made. HasUpdate (published_view asked.now) (scene_of asked.now trace) schedule (reports made)) }
+{
+    are_in_range(asked.site, asked.filter);
+    let kind = asked.kind;
+    let updating = Updating {
+        alloc,
+        asked,
+        trace,
+        schedule,
+    };
+    for_kind(kind, updating)
+}
+
+/// An update, for any function.
+#[derive(Drop)]
+struct Updating<'a, 'w> {
+    alloc: Global,
+    asked: &'a Publishing<'w>,
+    trace: Trace,
+    schedule: Schedule,
+}
+
+impl ForFunction for Updating<'_, '_> {
+    type Output = Result<Made, NoMemory>;
+
+    ghost may = { λ w kind. (kind ≡ w.asked.now.kind) × IsUpdateJob w.asked.now.kind (update_for (published_view w.asked.now) (scene_of w.asked.now w.trace)) };
+
+    ghost gives = { λ w R F f r. IfOk r (λ made. IsUpdateOf F f (published_view w.asked.now) (scene_of w.asked.now w.trace) w.schedule (reports made)) };
+
+    fn call<F: Function + Send>(self) -> Result<Made, NoMemory>
+    where
+        F::Record: Send,
+    {
+        update_network::<F>(self.alloc, self.asked, self.trace, self.schedule)
+    }
+}
+
+/// Runs an update by a schedule, which comes to the end of the run.
+fn update_network<F: Function>(
+    alloc: Global,
+    asked: &Publishing<'_>,
+    trace: Trace,
+    schedule: Schedule,
+) -> Result<Made, NoMemory>
+    requires kind { F.semantics.kind ≡ asked.now.kind }
+    requires sound { IsUpdateJob asked.now.kind (update_for (published_view asked.now) (scene_of asked.now trace)) }
+    ensures { IfOk result (λ made. IsUpdateOf F.row.Denot F.semantics (published_view asked.now) (scene_of asked.now trace) schedule (reports made)) }
+{
+    let Trace {
+        packets,
+        skipped,
+        cut,
+    } = trace;
+    let head = TwoHead {
+        kind: asked.kind,
+        window: asked.window,
+        packets: packets.items().len() as u32,
+        skipped,
+        cut,
+    };
+    let (site, window) = (asked.site, asked.window);
+    let ended = simulate_two::<F>(
+        alloc,
+        site,
+        window,
+        asked.filter,
+        asked.at,
+        packets,
+        schedule,
+    );
+    let (world, choices) = match ended {
+        Ok(ended) => ended,
+        Err(ScheduleFault::Unfinished { step: _step }) => unreachable!(),
+        Err(ScheduleFault::NoMemory) => return Err(NoMemory),
+    };
+    let report = report_two::<F>(alloc, &head, &world)?;
+    Ok(Made { choices, report })
+}

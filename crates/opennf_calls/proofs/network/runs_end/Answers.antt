@@ -1,6 +1,0 @@
--- The law of ends is proved for any function.
-use Rattle.opennf_calls.proofs.RunsEnd.{end_law}
-use Rattle.opennf_calls.proofs.network.runs_end.Goals as goal
-
-pub returns : goal.returns
-returns g c = end_law g.row.F.Denot g.F.Function.semantics g.met.F.Function.laws
