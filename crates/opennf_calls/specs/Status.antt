@@ -12,8 +12,8 @@ use Rattle.trace_reader.specs.declared.fault.TraceFault.{TraceFault}
 use Rattle.trace_reader.specs.declared.fault.TraceFault.TheVariants as fault
 use Rattle.journal_file.specs.declared.fault.JournalFault.{JournalFault}
 use Rattle.journal_file.specs.declared.fault.JournalFault.TheVariants as journal
-use Rattle.run_headline.specs.run_report.specs.declared.auditing.AuditFault.{AuditFault}
-use Rattle.run_headline.specs.run_report.specs.declared.auditing.AuditFault.TheVariants as audit
+use Rattle.run_headline.specs.nf_net.specs.declared.course.AuditFault.{AuditFault}
+use Rattle.run_headline.specs.nf_net.specs.declared.course.AuditFault.TheVariants as audit
 use Rattle.trace_reader.specs.declared.make.MakeFault.{MakeFault}
 use Rattle.trace_reader.specs.declared.make.MakeFault.TheVariants as making
 use Rattle.command_words.specs.declared.fault.ArgumentsFault.{ArgumentsFault}
