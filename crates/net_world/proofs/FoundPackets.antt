@@ -1,5 +1,5 @@
 -- Packets by their numbers: where numbers rise, each finds its own packet, and what any number finds fits its types.
-use Rattle.std.proofs.Common.{◌≡◌, ◌<◌, ◌≤◌, ◌^◌, ℕ, suc, ◌+◌, Bool, true, false, Some, List, [], ◌∷◌, map, length, refl, arith, lit<}
+use Rattle.std.proofs.Common.{◌≡◌, ◌<◌, ◌≤◌, ◌^◌, ℕ, suc, ◌+◌, true, false, Some, List, [], ◌∷◌, map, length, refl, arith, lit<}
 use Rattle.std.specs.Prelude.{if◌then◌else◌, ◌==◌, find, unwrap_or}
 use Rattle.std.specs.List.{All, range_with_len}
 use Rattle.std.proofs.lemmas.Bool.Decides.{nat_tests}

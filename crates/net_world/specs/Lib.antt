@@ -14,6 +14,7 @@ pub mod Seen
 pub mod Settles
 pub mod Standby
 pub mod Start
+pub mod Tables
 pub mod Verdicts
 pub mod Window
 pub mod Length

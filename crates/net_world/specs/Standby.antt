@@ -1,6 +1,6 @@
 -- What stands by: each record is that of one instance that nothing moved, after a front of what was processed of its unit, and as a run goes
 -- on that front never gets shorter. This project's own.
-use Rattle.std.specs.Prelude.{◌≡◌, ℕ, List, ◌++◌, Option, None, Some, slice_get}
+use Rattle.std.specs.Prelude.{◌≡◌, ℕ, List, Option, None, Some, slice_get}
 use Rattle.std.specs.FinMap as finite
 use Rattle.nf_function.specs.declared.unit.Unit as units
 use Rattle.nf_msgs.specs.declared.msg.Msg.{Msg}

@@ -6,9 +6,11 @@
 #![tactic(auto)]
 
 pub mod config;
+pub mod ending;
 pub mod node;
 pub mod starting;
 
 pub use config::Config;
+pub use ending::{discard, into_table};
 pub use node::Node;
 pub use starting::start;

@@ -10,9 +10,9 @@ use Rattle.command_words.specs.Requests.{FailAsked}
 use Rattle.net_world.specs.declared.config.Config.{Config}
 use Rattle.net_world.specs.Jobs.{job_of}
 use Rattle.net_world.specs.Start.{started_with}
-use Rattle.run_headline.specs.run_report.specs.declared.auditing.AuditFault.{AuditFault}
-use Rattle.run_headline.specs.run_report.specs.declared.auditing.AuditFault.TheVariants as audit
-use Rattle.run_headline.specs.run_report.specs.declared.head.Head.{Head}
+use Rattle.run_headline.specs.nf_net.specs.declared.course.AuditFault.{AuditFault}
+use Rattle.run_headline.specs.nf_net.specs.declared.course.AuditFault.TheVariants as audit
+use Rattle.report_lines.specs.declared.heads.Head.{Head}
 use Rattle.run_headline.specs.standby_failover.specs.declared.promoted.Promoted.{Promoted}
 use Rattle.run_headline.specs.standby_failover.specs.Causes.{IsFailCause, IsReached, first_of, world_after}
 use Rattle.run_headline.specs.standby_failover.specs.Failover.{Failover, HasCaughtUp, IsLeft, IsPromoted, failover_of}

@@ -24,9 +24,9 @@ use Rattle.net_world.specs.Runs.{LeadsTo, choices_of}
 use Rattle.net_world.specs.Start.{started_with}
 use Rattle.net_world.specs.Window.{AllHome}
 use Rattle.net_world.specs.Log.{answer_in}
-use Rattle.run_headline.specs.run_report.specs.declared.auditing.AuditFault.{AuditFault}
-use Rattle.run_headline.specs.run_report.specs.declared.auditing.AuditFault.TheVariants as audit
-use Rattle.run_headline.specs.run_report.specs.declared.head.Head.{Head}
+use Rattle.run_headline.specs.nf_net.specs.declared.course.AuditFault.{AuditFault}
+use Rattle.run_headline.specs.nf_net.specs.declared.course.AuditFault.TheVariants as audit
+use Rattle.report_lines.specs.declared.heads.Head.{Head}
 use Rattle.run_headline.specs.run_report.specs.Audits.{IsAuditCause}
 use Rattle.report_lines.specs.Lines.{by_number, output_in}
 use Rattle.run_headline.specs.run_report.specs.Lines.{report_text}

@@ -38,7 +38,7 @@ use Rattle.report_lines.specs.Lines.{by_number, output_in}
 use Rattle.run_headline.specs.Subject.{Subject}
 use Rattle.run_headline.specs.Law.{points_of}
 use Rattle.run_headline.specs.Text.{HasHeadline}
-use Rattle.run_headline.specs.run_report.specs.declared.head.Head.{Head}
+use Rattle.report_lines.specs.declared.heads.Head.{Head}
 use Rattle.run_headline.specs.run_report.specs.Audits.{IsAuditCause}
 use Rattle.run_headline.specs.run_report.specs.Lines.{report_text}
 use Rattle.call_files.specs.Scenarios.{RunResults, Scenario}

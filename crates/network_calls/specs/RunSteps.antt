@@ -16,8 +16,8 @@ use Rattle.function_kinds.specs.Functions.{OfKind}
 use Rattle.network_calls.specs.NetworkRuns.{RunGiven, IsNoRun, config_for, head_for, items_for, run_given}
 use Rattle.network_calls.specs.StrongRuns.{sharing_for}
 use Rattle.op_script.specs.declared.fault.ScriptFault.TheVariants as script
-use Rattle.run_headline.specs.run_report.specs.declared.auditing.AuditFault.{AuditFault}
-use Rattle.run_headline.specs.run_report.specs.declared.auditing.AuditFault.TheVariants as audit
+use Rattle.run_headline.specs.nf_net.specs.declared.course.AuditFault.{AuditFault}
+use Rattle.run_headline.specs.nf_net.specs.declared.course.AuditFault.TheVariants as audit
 
 -- a network before its start, with what its report repeats
 pub record IsOpening (s : NetworkAsked) (scenario : Scenario) (opening : Opening) : Type 0 where

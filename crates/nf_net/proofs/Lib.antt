@@ -11,6 +11,7 @@ pub mod CopyGives
 pub mod CopyKept
 pub mod CopyRuns
 pub mod CountedRoom
+pub mod CourseLemmas
 pub mod EveryRun
 pub mod FoldLemmas
 pub mod FreshRecords

@@ -9,6 +9,8 @@
 //! is enabled, nothing is left to be done. What holds of every run stands beside these folders. Nobody has to believe what they define.
 #![tactic(auto)]
 
+pub mod course;
 pub mod run;
 
+pub use course::{AuditFault, run_course};
 pub use run::{run_choices, simulate};

@@ -4,6 +4,23 @@ ghost use Rattle.report_lines.specs.Pieces.{counts_text, end_text, function_text
 
 use basics::{NoMemory, Text};
 use nf_function::Kind;
+use nf_msgs::Names;
+
+/// What a report repeats: the function, the instances' names, the window, and how the capture was read.
+#[derive(Debug, Drop)]
+pub struct Head {
+    pub kind: Kind,
+    /// The instances' names in order; instance i is the one at place i.
+    pub names: Names,
+    /// How many packets may be under way.
+    pub window: u32,
+    /// How many packets are steered.
+    pub packets: u32,
+    /// How many records of the capture are skipped.
+    pub skipped: u32,
+    /// Whether the capture ends within a record.
+    pub cut: bool,
+}
 
 /// Puts the line of the function, the number of instances and the window after a text.
 #[tactic(auto, unfolding(crate::specs::Lines::function_line))]

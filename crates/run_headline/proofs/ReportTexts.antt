@@ -15,7 +15,7 @@ use Rattle.net_world.specs.declared.node.Node.{Node}
 use Rattle.net_world.specs.Nodes.{node_step}
 use Rattle.net_world.specs.Start.{started_with}
 use Rattle.report_lines.specs.Lines.{NamedInstance, by_unit, done_lines, named_line, out_lines, standby_lines, state_lines, tail_lines}
-use Rattle.run_report.specs.declared.head.Head.{Head}
+use Rattle.report_lines.specs.declared.heads.Head.{Head}
 use Rattle.run_report.specs.Lines.{answer_lines, head_lines, live_line, named_instances, packet_lines, record_lines, report_text, summary_lines, whole_lines}
 use Rattle.run_headline.specs.Text.{HasHeadline, lines_text}
 use Rattle.run_headline.specs.Law.{HeadlineLaw, IsCompleted, done_in, lines, subject}

@@ -6,7 +6,7 @@ use Rattle.flow_filter.specs.declared.packet.Packet.{Packet}
 use Rattle.nf_function.specs.declared.unit.Unit as units
 use Rattle.nf_function.specs.Semantics.{Semantics, unit_at}
 use Rattle.record_table.specs.Table.{is_among, same_unit}
-use Rattle.run_report.specs.declared.head.Head.{Head}
+use Rattle.report_lines.specs.declared.heads.Head.{Head}
 use Rattle.standby_failover.specs.declared.promoted.Failing.{Failing}
 use Rattle.standby_failover.specs.Failover.{is_in}
 use Rattle.standby_failover.specs.Lines.{caught_line, fail_line, head_lines, lost_line, open_line, promoted_line}

@@ -1,7 +1,7 @@
 -- The law of a failover's headline: what is printed of each has its lines. This project's own.
 use Rattle.std.specs.Prelude.{◌≡◌}
 use Rattle.record_table.specs.Table.{TableView}
-use Rattle.run_report.specs.declared.head.Head.{Head}
+use Rattle.report_lines.specs.declared.heads.Head.{Head}
 use Rattle.standby_failover.specs.declared.promoted.Failing.{Failing}
 use Rattle.standby_failover.specs.declared.promoted.Promoted.{Promoted}
 use Rattle.standby_failover.specs.Failover.{Failover, HasCaughtUp, IsLeft, IsPromoted}

@@ -21,7 +21,7 @@ use Rattle.net_world.specs.Log.{answer_in}
 use Rattle.run_report.specs.nf_net.specs.Promises.{Promises, Completed, Standbys, Verdicts}
 use Rattle.report_lines.specs.Lines.{by_number, by_unit, output_in}
 use Rattle.run_report.specs.Lines.{named_instances, report_text}
-use Rattle.run_report.specs.declared.head.Head.{Head}
+use Rattle.report_lines.specs.declared.heads.Head.{Head}
 use Rattle.run_headline.specs.Headline.{ReportLines, Headline, is_covered, outs_of, records_of}
 use Rattle.run_headline.specs.Subject.{Subject}
 use Rattle.run_headline.specs.Text.{HasHeadline}

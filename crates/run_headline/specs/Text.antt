@@ -5,7 +5,7 @@ use Rattle.std.specs.Str.{bytes_eq}
 use Rattle.std.specs.FinMap.{len}
 use Rattle.nf_function.specs.Semantics.{Semantics}
 use Rattle.report_lines.specs.Lines.{NamedInstance, NamedRecord, named_line, out_line, record_line, tail_lines}
-use Rattle.run_report.specs.declared.head.Head.{Head}
+use Rattle.report_lines.specs.declared.heads.Head.{Head}
 use Rattle.run_report.specs.Lines.{answer_line, head_lines, live_line}
 use Rattle.run_headline.specs.Headline.{Headline, ReportLines}
 use Rattle.run_headline.specs.Subject.{Subject}

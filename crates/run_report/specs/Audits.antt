@@ -5,10 +5,10 @@ use Rattle.nf_msgs.specs.declared.msg.Msg.{Msg}
 use Rattle.nf_msgs.specs.declared.note.Note.{Note}
 use Rattle.actor_net.specs.declared.choice.Choice.{Choice}
 use Rattle.actor_net.specs.Network.{Network, is_done, run}
-use Rattle.actor_net.specs.Replays.{FirstFault}
 use Rattle.net_world.specs.declared.node.Node.{Node}
-use Rattle.net_world.specs.Nodes.{node_step, node_ready, node_ended}
+use Rattle.net_world.specs.Nodes.{node_step, node_ended}
 use Rattle.net_world.specs.Runs.{LeadsTo}
+use Rattle.nf_net.specs.Courses.{IsRefusedAt}
 
 module _ {F R : Type 0} (f : Semantics R) (start : Network (Node F R) Msg Note) (choices : List Choice) where
   -- the world after the choices
@@ -20,12 +20,6 @@ module _ {F R : Type 0} (f : Semantics R) (start : Network (Node F R) Msg Note) 
     pub leads : LeadsTo f start choices world_after
     pub complete : is_done node_ended world_after ≡ true
 
-  -- the choice of this step, counted from 1, is the first that isn't enabled in its turn
-  pub record IsRefusedAt (step : ℕ) : Type 0 where
-    pub index : ℕ
-    pub counted : step ≡ index + 1
-    pub fault : FirstFault node_ready (node_step f) (record { choices = choices; index = index }) start
-
   -- the choices are a run, and something is left to do where this step would come, the next one
   pub record IsShortAt (step : ℕ) : Type 0 where
     pub leads : LeadsTo f start choices world_after
@@ -34,4 +28,4 @@ module _ {F R : Type 0} (f : Semantics R) (start : Network (Node F R) Msg Note) 
 
   -- why the choices aren't a complete run
   abbrev pub IsAuditCause : ℕ → Type 0
-  IsAuditCause step = IsRefusedAt step ⊎ IsShortAt step
+  IsAuditCause step = IsRefusedAt f start choices step ⊎ IsShortAt step

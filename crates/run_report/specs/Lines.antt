@@ -12,8 +12,8 @@ use Rattle.instance_worker.specs.declared.instance.Instance.{Instance as Instanc
 use Rattle.net_world.specs.declared.node.Node.{Node}
 use Rattle.net_world.specs.declared.node.Node.TheVariants.{Switch, Controller, Instance}
 use Rattle.net_world.specs.Log.{answer_in}
+use Rattle.report_lines.specs.declared.heads.Head.{Head}
 use Rattle.report_lines.specs.Lines.{NamedInstance, by_number, done_lines, function_line, out_lines, standby_lines, state_lines, tail_lines, trace_line}
-use Rattle.run_report.specs.declared.head.Head.{Head}
 
 -- the three lines at the top
 unfoldable pub head_lines : Head → List ℕ

@@ -1,23 +1,24 @@
 //! The report of the run that choices are, and why they are none.
-ghost use Rattle.std.specs.Prelude.{◌≡◌, ◌+◌, ℕ, length, IfOk};
+ghost use Rattle.std.specs.Prelude.{◌≡◌, ℕ, true, false, IfOk};
+ghost use Rattle.actor_net.specs.Network.{is_done};
 ghost use Rattle.net_world.specs.Input.{IsInput};
 ghost use Rattle.net_world.specs.Jobs.{course_of, job_of};
+ghost use Rattle.net_world.specs.Nodes.{node_ended};
 ghost use Rattle.nf_net.specs.Promises.{Completed, Promises, Standbys, Verdicts};
 ghost use Rattle.net_world.specs.Start.{IsConfig, started_with};
 ghost use Rattle.net_world.specs.Window.{AllHome};
 ghost use Rattle.run_report.specs.Audits.{IsAuditCause, IsCompleteRun, world_after};
 ghost use Rattle.run_report.specs.Lines.{report_text};
 
-use crate::head::Head;
 use crate::reporting::report;
-use actor_net::{Choices, ReplayFault, World};
-use basics::{NoMemory, Text};
-use net_world::{Config, Node, start};
+use actor_net::{Choices, World};
+use basics::Text;
+use net_world::{Config, Node, discard};
 use nf_function::Function;
 use nf_msgs::Msg;
-use nf_net::run_choices;
+use nf_net::{AuditFault, run_course};
+use report_lines::Head;
 use std::alloc::Global;
-use thiserror::Error;
 
 /// The report of a network that takes these choices from its start. They must be a complete run.
 pub fn audit<F: Function>(
@@ -45,54 +46,26 @@ pub fn audit<F: Function>(
     ensures not_a_run { (step : ℕ) → result ≡ Err (AuditFault.NotARun step)
         → IsAuditCause {F = F.row.Denot} F.semantics (started_with alloc config.now items.items) choices.now step }
 {
-    let start = start::<F>(alloc, config, items)?;
-    let world = complete_world(start, choices)?;
-    let text = report(alloc, head, &world, summary);
-    drop(world);
-    Ok(text?)
+    let world = run_course::<F>(alloc, config, items, choices)?;
+    let text = report_ended(alloc, head, &world, choices.len() as u64 + 1, summary);
+    discard(world);
+    text
 }
 
-/// The world in which a run of these choices ends. They must be a complete one.
-fn complete_world<F: Function>(
-    start: World<Node<F>>,
-    choices: &Choices,
-) -> Result<World<Node<F>>, AuditFault>
-    ensures run { IfOk result (λ _. IsCompleteRun F.semantics start choices.now) }
-    ensures world { IfOk result (λ world. world ≡ world_after F.semantics start choices.now) }
-    ensures not_a_run { (step : ℕ) → result ≡ Err (AuditFault.NotARun step) → IsAuditCause F.semantics start choices.now step }
+/// The report of a world at its end. Else it lacks this step.
+fn report_ended<F: Function>(
+    alloc: Global,
+    head: &Head,
+    world: &World<Node<F>>,
+    next: u64,
+    summary: bool,
+) -> Result<Text, AuditFault>
+    ensures complete { IfOk result (λ _. is_done node_ended world.now ≡ true) }
+    ensures text { IfOk result (λ text. text ≡ report_text F.semantics head.now summary world.now) }
+    ensures not_a_run { (step : ℕ) → result ≡ Err (AuditFault.NotARun step) → (step ≡ next) × (is_done node_ended world.now ≡ false) }
 {
-    let next = choices.len() as u64 + 1;
-    match run_choices(start, choices) {
-        Ok(world) if world.complete() => Ok(world),
-        Ok(world) => {
-            drop(world);
-            Err(AuditFault::NotARun { step: next })
-        }
-        Err(ReplayFault::NotEnabled { index }) => {
-            let step = index as u64 + 1;
-            Err(AuditFault::NotARun { step })
-        }
-        Err(ReplayFault::NoMemory) => Err(AuditFault::NoMemory),
+    if !world.complete() {
+        return Err(AuditFault::NotARun { step: next });
     }
-}
-
-/// Why choices have no report.
-#[derive(Clone, Copy, Debug, PartialEq, Eq, Error)]
-pub enum AuditFault {
-    /// The choice of a step, counted from 1, isn't enabled in its turn; or all are, and the next step is missing.
-    #[error("not a run at step {step}")]
-    NotARun { step: u64 },
-    #[error("out of memory")]
-    NoMemory,
-}
-
-impl From<NoMemory> for AuditFault {
-    ghost use Rattle.std.specs.Prelude.{◌≡◌};
-    ghost use Rattle.run_report.specs.declared.auditing.AuditFault.TheVariants.{NoMemory};
-
-    ghost from_gives = { λ _ e. e ≡ NoMemory };
-
-    fn from(_fault: NoMemory) -> Self {
-        AuditFault::NoMemory
-    }
+    Ok(report(alloc, head, world, summary)?)
 }

@@ -8,11 +8,10 @@
 
 mod answers;
 pub mod auditing;
-pub mod head;
 mod instances;
 pub mod reporting;
 
-pub use auditing::{AuditFault, audit};
-pub use head::Head;
-pub use nf_net::{run_choices, simulate};
+pub use auditing::audit;
+pub use nf_net::{AuditFault, run_choices, simulate};
+pub use report_lines::Head;
 pub use reporting::report;

@@ -1,10 +1,9 @@
 //! The report of a world of a run: its head, the lines of packets, answers and records, and its tail.
 ghost use Rattle.std.specs.Prelude.{◌≡◌, ◌++◌, IfOk, OnOk};
-ghost use Rattle.run_report.specs.Lines.{named_instances, packet_lines, record_lines, report_text, summary_lines, whole_lines};
+ghost use Rattle.run_report.specs.Lines.{head_lines, named_instances, packet_lines, record_lines, report_text, summary_lines, whole_lines};
 ghost use Rattle.report_lines.specs.Lines.{tail_lines};
 
 use crate::answers::push_answers;
-use crate::head::Head;
 use crate::instances::{named_instances, push_lives};
 use actor_net::World;
 use basics::{NoMemory, Text};
@@ -13,7 +12,8 @@ use net_world::Node;
 use nf_function::Function;
 use nf_msgs::Note;
 use report_lines::{
-    NamedInstance, name_bytes, push_dones, push_outs, push_standbys, push_states, push_tail,
+    Head, NamedInstance, name_bytes, push_dones, push_function_line, push_outs, push_standbys,
+    push_states, push_tail, push_trace_line,
 };
 use std::alloc::Global;
 
@@ -45,13 +45,24 @@ fn push_report<F: Function>(
     requires { found.now ≡ named_instances head.now.names world.now.nodes }
     ensures { OnOk result (text.new ≡ text.old ++ report_text F.semantics head.now summary world.now) }
 {
-    head.push_lines(text)?;
+    push_head(text, head)?;
     if summary {
         push_summary(alloc, text, head, world, found)?;
     } else {
         push_whole(alloc, text, head, world, found)?;
     }
     push_tail(text, head.names.items().len(), found)
+}
+
+/// Puts the lines at the top of the report after a text.
+#[tactic(auto, unfolding(crate::specs::Lines::head_lines))]
+fn push_head(text: &mut Text, head: &Head) -> Result<(), NoMemory>
+    ensures { OnOk result (text.new ≡ text.old ++ head_lines head.now) }
+{
+    let instances = head.names.items().len() as u64;
+    text.push_bytes(b"opennf report 1\n")?;
+    push_function_line(text, head.kind, instances, head.window)?;
+    push_trace_line(text, head.packets, head.skipped, head.cut)
 }
 
 /// Puts the lines of packets, answers and records after a text.

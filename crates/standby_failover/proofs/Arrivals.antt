@@ -9,7 +9,7 @@ use Rattle.net_world.specs.Input.{packets}
 use Rattle.net_world.specs.Log.{arrivals_in, dones_in}
 use Rattle.net_world.specs.Places.{unit_in}
 use Rattle.net_world.proofs.NumberCounts.{times_filter}
-use Rattle.run_report.specs.nf_net.proofs.PacketCounts.{done_times}
+use Rattle.nf_net.proofs.PacketCounts.{done_times}
 use Rattle.standby_failover.specs.Failover.{Failover, lost_in_order, lost_packets, numbers_done}
 use Rattle.standby_failover.specs.Failover.{processed_of, reflected_by, is_affected, is_in, is_lost, IsLeft}
 use Rattle.standby_failover.proofs.ListLemmas.{in_filter, in_drop, in-append, filter_same, none_times, some_in}

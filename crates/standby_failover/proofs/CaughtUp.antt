@@ -18,7 +18,7 @@ use Rattle.net_world.specs.Log.{arrivals_in}
 use Rattle.net_world.specs.Places.{unit_in}
 use Rattle.net_world.specs.Records.{live_at, HasOneRecord, Has_none, Is_given, Is_live, Is_on_way}
 use Rattle.net_world.specs.Seen.{HasRecord, HasSeen, Lacks_last, Sees_all}
-use Rattle.run_report.specs.proof_outlines.proofs.joined.StartJoined.{all_fit}
+use Rattle.nf_net.specs.proof_outlines.proofs.joined.StartJoined.{all_fit}
 use Rattle.standby_failover.specs.declared.promoted.Promoted.{Promoted}
 use Rattle.standby_failover.specs.Failover.{Failover, record_kept, lost_in_order, open_of, open_packets, numbers_done, processed_of}
 use Rattle.standby_failover.specs.Failover.{reflected_by, standing, is_affected, is_in, is_lost, is_open, HasCaughtUp, IsLeft, IsPromoted}

@@ -17,10 +17,10 @@ use Rattle.net_world.specs.declared.node.Node.TheVariants.{Instance}
 use Rattle.net_world.specs.Input.{IsInput}
 use Rattle.net_world.specs.Nodes.{node_step, node_ready}
 use Rattle.net_world.specs.Start.{started_with}
-use Rattle.run_report.specs.proof_outlines.proofs.joined.StartJoined.{count_at_start}
-use Rattle.run_report.specs.proof_outlines.proofs.joined.RunsJoined.{run_beside, start_world}
-use Rattle.run_report.specs.nf_net.proofs.paths.RecordPromises.{instance_of}
-use Rattle.standby_failover.specs.Scenes.{is_instance}
+use Rattle.net_world.specs.Tables.{is_instance}
+use Rattle.nf_net.specs.proof_outlines.proofs.joined.StartJoined.{count_at_start}
+use Rattle.nf_net.specs.proof_outlines.proofs.joined.RunsJoined.{run_beside, start_world}
+use Rattle.nf_net.proofs.paths.RecordPromises.{instance_of}
 
 module _ (F : Type 0) {R : Type 0} (f : Semantics R) (laws : FunctionLaws f) (alloc : Global) (c : Config) (items : List Msg) (is : IsInput f.kind c items)
     (cs : List Choice) where

@@ -13,9 +13,9 @@ use Rattle.net_world.specs.Input.{IsInput}
 use Rattle.net_world.specs.Jobs.{job_of}
 use Rattle.net_world.specs.Nodes.{node_step, node_ready}
 use Rattle.net_world.specs.Start.{started_with}
-use Rattle.run_report.specs.nf_net.specs.Promises.{Promises}
-use Rattle.run_report.specs.nf_net.proofs.EveryRun.{every_run}
-use Rattle.run_report.specs.nf_net.proofs.StandbyRuns.{standbys}
+use Rattle.nf_net.specs.Promises.{Promises}
+use Rattle.nf_net.proofs.EveryRun.{every_run}
+use Rattle.nf_net.proofs.StandbyRuns.{standbys}
 use Rattle.standby_failover.specs.Failover.{Failover, IsLeft, failover_of}
 use Rattle.standby_failover.proofs.Reflected.{reflects}
 

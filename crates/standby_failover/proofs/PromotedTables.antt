@@ -13,7 +13,8 @@ use Rattle.net_world.specs.declared.node.Node.{Node}
 use Rattle.net_world.specs.declared.node.Node.TheVariants.{Instance}
 use Rattle.net_world.specs.Records.{live_in, live_at}
 use Rattle.net_world.specs.Standby.{standby_in}
-use Rattle.standby_failover.specs.Failover.{Failover, is_affected, standing, table_at, table_in, IsLeft}
+use Rattle.net_world.specs.Tables.{table_at, table_in}
+use Rattle.standby_failover.specs.Failover.{Failover, is_affected, standing, IsLeft}
 
 -- the records of a node by its table
 pub live_table : {F R : Type 0} (o : Option (Node F R)) (u : units.Unit) → live_in u o ≡ finite.get (table_in o).live u

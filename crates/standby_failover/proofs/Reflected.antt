@@ -15,10 +15,10 @@ use Rattle.net_world.specs.Log.{arrivals_in, dones_in}
 use Rattle.net_world.specs.Places.{unit_in}
 use Rattle.net_world.specs.Standby.{StandsBy}
 use Rattle.net_world.proofs.NumberCounts.{done_numbers, times_filter}
-use Rattle.run_report.specs.nf_net.specs.Promises.{Promises}
-use Rattle.run_report.specs.nf_net.proofs.FrontLemmas.{front_length}
-use Rattle.run_report.specs.nf_net.proofs.PacketCounts.{no_longer, done_times}
-use Rattle.run_report.specs.proof_outlines.proofs.joined.StartJoined.{all_fit}
+use Rattle.nf_net.specs.Promises.{Promises}
+use Rattle.nf_net.proofs.FrontLemmas.{front_length}
+use Rattle.nf_net.proofs.PacketCounts.{no_longer, done_times}
+use Rattle.nf_net.specs.proof_outlines.proofs.joined.StartJoined.{all_fit}
 use Rattle.standby_failover.specs.Failover.{Failover, record_kept, numbers_done, processed_of, reflected_by, standing, AreReflected, IsReflected}
 use Rattle.standby_failover.proofs.ListLemmas.{IsOnce}
 

@@ -5,9 +5,9 @@ use Rattle.nf_msgs.specs.declared.msg.Msg.{Msg}
 use Rattle.nf_msgs.specs.declared.note.Note.{Note}
 use Rattle.actor_net.specs.declared.choice.Choice.{Choice}
 use Rattle.actor_net.specs.Network.{Network, IsRun, run}
-use Rattle.actor_net.specs.Replays.{FirstFault}
 use Rattle.net_world.specs.declared.node.Node.{Node}
 use Rattle.net_world.specs.Nodes.{node_step, node_ready}
+use Rattle.nf_net.specs.Courses.{IsRefusedAt}
 
 -- the first so many of some choices
 pub record FirstChoices : Type 0 where
@@ -30,12 +30,6 @@ module _ {F R : Type 0} (f : Semantics R) (start : Network (Node F R) Msg Note) 
     pub enough : first.count ≤ length first.all
     pub is_run : IsRun node_ready (node_step f) (taken_among first) start
 
-  -- the choice of this step, counted from 1, is the first of them that isn't enabled in its turn
-  pub record IsRefusedAt (step : ℕ) : Type 0 where
-    pub index : ℕ
-    pub counted : step ≡ index + 1
-    pub fault : FirstFault node_ready (node_step f) (record { choices = taken_among first; index = index }) start
-
   -- there are fewer: all choices are a run, and this would be the step after the last
   pub record AreTooFew (step : ℕ) : Type 0 where
     pub is_run : IsRun node_ready (node_step f) first.all start
@@ -44,4 +38,4 @@ module _ {F R : Type 0} (f : Semantics R) (start : Network (Node F R) Msg Note) 
 
   -- why they lead to no world
   abbrev pub IsFailCause : ℕ → Type 0
-  IsFailCause step = IsRefusedAt step ⊎ AreTooFew step
+  IsFailCause step = IsRefusedAt f start (taken_among first) step ⊎ AreTooFew step

@@ -1,18 +1,16 @@
 -- What is left where an instance fails and another takes over from the records that stand by there. All of it speaks of the world in which the
 -- one fails. Packets go by their numbers. This project's own.
 use Rattle.std.specs.Prelude.{◌≡◌, ℕ, ◌≤◌, Bool, true, false, not, ◌==◌, ◌&&◌, if◌then◌else◌, List, ◌++◌}
-use Rattle.std.specs.Prelude.{map, filter, take, drop, length, Option, None, Some, is_some, slice_get}
+use Rattle.std.specs.Prelude.{map, filter, take, drop, length, Option, None, is_some}
 use Rattle.std.specs.List.{list_any}
 use Rattle.std.specs.FinMap as finite
 use Rattle.nf_function.specs.declared.unit.Unit as units
 use Rattle.nf_function.specs.Semantics.{packets_in}
-use Rattle.record_table.specs.Table.{TableView, empty}
+use Rattle.record_table.specs.Table.{TableView}
 use Rattle.nf_msgs.specs.declared.msg.Msg.{Msg}
 use Rattle.nf_msgs.specs.declared.note.Note.{Note}
-use Rattle.nf_msgs.specs.Nodes.{instance_node}
 use Rattle.actor_net.specs.Network.{Network}
 use Rattle.net_world.specs.declared.node.Node.{Node}
-use Rattle.net_world.specs.declared.node.Node.TheVariants.{Instance}
 use Rattle.net_world.specs.Fold.{arrived_of, fold, is_of, processed_of as processed_by_log}
 use Rattle.net_world.specs.Input.{IsInput}
 use Rattle.net_world.specs.Jobs.{Job}
@@ -20,7 +18,8 @@ use Rattle.net_world.specs.Log.{arrivals_in, dones_in}
 use Rattle.net_world.specs.Places.{is_loose, unit_in}
 use Rattle.net_world.specs.Records.{live_at}
 use Rattle.net_world.specs.Standby.{standby_at}
-use Rattle.run_report.specs.nf_net.specs.Promises.{Promises}
+use Rattle.net_world.specs.Tables.{table_at}
+use Rattle.nf_net.specs.Promises.{Promises}
 use Rattle.standby_failover.specs.declared.promoted.Promoted.{Promoted}
 
 -- a run's world in which an instance fails, and the instance that takes over
@@ -40,14 +39,6 @@ is_in p ps = list_any (λ q. p == q) ps
 -- the packets that were processed, in order
 abbrev pub numbers_done : List Note → List ℕ
 numbers_done log = map (λ d. d.number) (dones_in log)
-
--- the records of an instance
-abbrev pub table_in : {F R : Type 0} → Option (Node F R) → TableView R
-table_in (Some (Instance i)) = i.table
-table_in other = empty
-
-abbrev pub table_at : {F R : Type 0} → Network (Node F R) Msg Note → ℕ → TableView R
-table_at w i = table_in (slice_get w.nodes (instance_node i))
 
 module _ {F R : Type 0} (x : Failover F R) where
   -- the packets of a unit that were processed

@@ -10,17 +10,12 @@ use Rattle.nf_msgs.specs.declared.note.Note.{Note}
 use Rattle.actor_net.specs.Network.{Network}
 use Rattle.net_world.specs.declared.config.Config.{Config}
 use Rattle.net_world.specs.declared.node.Node.{Node}
-use Rattle.net_world.specs.declared.node.Node.TheVariants.{Instance}
 use Rattle.net_world.specs.Input.{packets}
 use Rattle.net_world.specs.Jobs.{job_of}
+use Rattle.net_world.specs.Tables.{table_at}
 use Rattle.standby_failover.specs.declared.scene.Affected.{Affected}
 use Rattle.standby_failover.specs.declared.scene.Scene.{Scene}
-use Rattle.standby_failover.specs.Failover.{Failover, IsLeft, failover_of, lost_in_order, lost_packets, open_packets, table_at}
-
--- whether a node is an instance
-abbrev pub is_instance : {F R : Type 0} → Option (Node F R) → Bool
-is_instance (Some (Instance i)) = true
-is_instance other = false
+use Rattle.standby_failover.specs.Failover.{Failover, IsLeft, failover_of, lost_in_order, lost_packets, open_packets}
 
 -- a world in which an instance of a network fails, whatever the network's function
 pub record Stopped (F R : Type 0) : Type 0 where

@@ -15,7 +15,9 @@ pub mod reporting;
 mod scene;
 
 pub use catching_up::catch_up;
+pub use nf_net::AuditFault;
 pub use packets::packets_of;
 pub use promoted::{Failing, Numbers, Promoted};
 pub use promoting::{promote, promote_with};
+pub use report_lines::Head;
 pub use reporting::report_failover;

@@ -1,25 +1,26 @@
 //! What stands by where an instance fails: the records that are promoted, and the packets that they lack.
-ghost use Rattle.std.specs.Prelude.{◌≡◌, ◌≢◌, ◌<◌, ◌⊎◌, ◌++◌, ◌==◌, ℕ, true, All, IsSome, find, length, slice_get, take, IfOk, MatchResult};
+ghost use Rattle.std.specs.Prelude.{◌≡◌, ◌≢◌, ◌<◌, ◌⊎◌, ◌++◌, ◌==◌, ℕ, All, IsSome, find, length, take, IfOk, MatchResult};
 ghost use Rattle.trace_reader.specs.Records.{AreNumbered};
-ghost use Rattle.nf_msgs.specs.Nodes.{instance_node};
 ghost use Rattle.net_world.specs.Input.{packets, IsInput};
 ghost use Rattle.net_world.specs.Jobs.{job_of};
 ghost use Rattle.net_world.specs.Start.{started_with};
+ghost use Rattle.net_world.specs.Tables.{table_at};
 ghost use Rattle.standby_failover.specs.Causes.{IsFailCause, IsReached, first_of, world_after};
 ghost use Rattle.standby_failover.specs.Failover.{Failover, IsLeft, IsPromoted, failover_of};
-ghost use Rattle.standby_failover.specs.Scenes.{AreAffected, is_instance};
+ghost use Rattle.standby_failover.specs.Scenes.{AreAffected};
 
 use crate::packets::packets_of;
 use crate::promoted::{Failing, Promoted};
-use crate::replay::{into_table, table_of, world_after};
+use crate::replay::{table_of, world_after};
 use crate::scene::{Affected, Scene};
-use actor_net::{Choices, World};
+use actor_net::Choices;
 use basics::NoMemory;
 use flow_filter::Packets;
-use net_world::{Config, Node};
+use net_world::{Config, into_table};
 use nf_function::Function;
-use nf_msgs::{MOST_INSTANCES, Msg};
-use run_report::AuditFault;
+use nf_msgs::Msg;
+use nf_net::AuditFault;
+use record_table::Table;
 use std::alloc::Global;
 
 /// What is left where an instance of a network fails after the first so many choices, and another takes over. Of the choices these alone are then left;
@@ -95,22 +96,17 @@ pub fn promote_with<F: Function>(
         to: table_of(&world, failing.to),
     };
     let affected = scene.affected(alloc)?;
-    let promoted = promoted_from(world, failing, affected)?;
+    let table = into_table(world, failing.to)?;
+    let promoted = promoted_from(table, affected)?;
     Ok(promoted)
 }
 
-/// What is promoted in a world that is done with, by the affected units and their packets.
-fn promoted_from<F: Function>(
-    world: World<Node<F>>,
-    failing: &Failing,
-    affected: Affected,
-) -> Result<Promoted<F>, NoMemory>
-    requires few { failing.now.to < MOST_INSTANCES }
-    requires there { is_instance (slice_get world.nodes (instance_node failing.now.to)) ≡ true }
-    ensures { (x : Failover F.row.Denot F.Record) → world ≡ x.world → failing.now.to ≡ x.to → IsLeft x → x.failed ≢ x.to → AreAffected x affected
+/// What is promoted at an instance with these records, by the affected units and their packets.
+fn promoted_from<F: Function>(table: Table<F>, affected: Affected) -> Result<Promoted<F>, NoMemory>
+    ensures { (x : Failover F.row.Denot F.Record) → table ≡ table_at x.world x.to → IsLeft x → x.failed ≢ x.to → AreAffected x affected
         → IfOk result (IsPromoted x) }
 {
-    let mut table = into_table(world, failing.to)?;
+    let mut table = table;
     table.promote(&affected.units)?;
     let Affected {
         units,

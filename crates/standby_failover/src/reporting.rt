@@ -22,8 +22,7 @@ use flow_filter::{Name, Packets};
 use net_world::Config;
 use nf_function::{Function, Unit, Units};
 use record_table::Table;
-use report_lines::{push_function_line, push_record, push_trace_line, push_unit};
-use run_report::Head;
+use report_lines::{Head, push_function_line, push_record, push_trace_line, push_unit};
 use std::alloc::Global;
 
 /// The report of what is promoted and of its records once they have caught up as by [`crate::catch_up`], and these records.

@@ -1,10 +1,10 @@
 //! What is looked at of the world in which an instance fails.
-ghost use Rattle.std.specs.Prelude.{◌≡◌, [], IfOk, OnOk};
+ghost use Rattle.std.specs.Prelude.{◌≡◌, ◌&&◌, [], not, IfOk, OnOk};
 ghost use Rattle.std.specs.Option.{option_copied};
 ghost use Rattle.std.specs.FinMap as finite;
 ghost use Rattle.trace_reader.specs.Records.{AreNumbered};
 ghost use Rattle.standby_failover.specs.Failover.{lost_in_order, open_packets};
-ghost use Rattle.standby_failover.specs.Scenes.{AreAffected, IsSceneOf, Stopped, affects, failover_in, has_seen_more};
+ghost use Rattle.standby_failover.specs.Scenes.{AreAffected, IsSceneOf, Stopped, affects, failover_in, has_seen_more, is_marked};
 
 use crate::numbers::{came_among, is_marked, processed};
 use crate::packets::packet_at;
@@ -112,11 +112,19 @@ impl<F: Function> Scene<'_, F> {
             let Note::Arrived(number) = note else {
                 continue;
             };
-            if !is_marked(marks.as_slice(), *number) && self.affects(*number) {
+            if self.is_open(marks.as_slice(), *number) {
                 found.push(*number)?;
             }
         }
         Ok(found)
+    }
+
+    /// Whether the packet with a number is open, by the marks of those that were processed.
+    fn is_open(&self, marks: &[bool], number: u32) -> bool
+        requires { AreNumbered 1 self.now.packets.now }
+        ensures { result ≡ (not (is_marked marks.now number) && affects F.semantics self.now number) }
+    {
+        !is_marked(marks, number) && self.affects(number)
     }
 
     /// Whether the packet with a number is of an affected unit.

@@ -15,7 +15,8 @@ use Rattle.record_table.proofs.UnitOrder.{same_unit_equiv}
 use Rattle.net_world.specs.Input.{commands, order_numbered, packets}
 use Rattle.net_world.specs.Log.{arrivals_in, installs_in}
 use Rattle.net_world.specs.Places.{is_loose, unit_in}
-use Rattle.standby_failover.specs.Failover.{Failover, IsLeft, is_affected, is_in, table_at}
+use Rattle.net_world.specs.Tables.{table_at}
+use Rattle.standby_failover.specs.Failover.{Failover, IsLeft, is_affected, is_in}
 use Rattle.standby_failover.specs.Lines.{caught_line, promoted_line}
 use Rattle.standby_failover.proofs.ListLemmas.{filter_all, filter_same, in_filter, those_filter}
 use Rattle.standby_failover.proofs.PromotedTables.{live_table}

@@ -9,10 +9,11 @@ use Rattle.nf_function.specs.declared.unit.Unit as units
 use Rattle.record_table.specs.Table.{TableView, is_among, same_unit}
 use Rattle.record_table.proofs.MadeChunks.{distinct_entries}
 use Rattle.net_world.specs.Records.{live_at}
-use Rattle.run_report.specs.declared.head.Head.{Head}
+use Rattle.net_world.specs.Tables.{table_at}
+use Rattle.report_lines.specs.declared.heads.Head.{Head}
 use Rattle.standby_failover.specs.declared.promoted.Failing.{Failing}
 use Rattle.standby_failover.specs.declared.promoted.Promoted.{Promoted}
-use Rattle.standby_failover.specs.Failover.{Failover, IsLeft, is_affected, is_lost, is_open, lost_packets, open_packets, reflected_by, standing, table_at}
+use Rattle.standby_failover.specs.Failover.{Failover, IsLeft, is_affected, is_lost, is_open, lost_packets, open_packets, reflected_by, standing}
 use Rattle.standby_failover.specs.Lines.{caught_lines, fail_line, failover_text, head_lines, lost_line, open_line, promoted_line, promoted_lines}
 use Rattle.run_headline.specs.Failover.{FailHeadline, FailLines, HasOrder, lines_text, listed}
 use Rattle.run_headline.specs.FailoverLaw.{FailoverLaw, IsFailed}

@@ -1,36 +1,53 @@
 -- What every run keeps, and every complete one, of the run that was audited.
+use Rattle.std.proofs.lemmas.Result.{IfOk-weaker}
+use Rattle.net_world.specs.Start.{started_with}
 use Rattle.nf_net.proofs.EveryRun.{every_run, every_end, every_home}
 use Rattle.nf_net.proofs.JudgedRuns.{verdicts}
 use Rattle.nf_net.proofs.StandbyRuns.{standbys}
-use Rattle.run_report.proofs.AuditLemmas.{complete_from}
+use Rattle.run_report.proofs.AuditLemmas.{complete, short, text_is}
 use Rattle.run_report.proofs.auditing.audit.Goals as goal
+
+pub returns-clause-run : goal.returns-clause-run
+returns-clause-run g c =
+    IfOk-weaker c.report_ended-text.result _ _ (λ t done. complete g.F.Function.semantics _ _ _ c.in_ok-world.ensures.leads done)
+    c.report_ended-text.ensures.complete
+
+pub returns-clause-text : goal.returns-clause-text
+returns-clause-text g c =
+    text_is g.F.Function.semantics (started_with c.args.alloc c.args.config.now c.args.items.items) c.args.choices.now c.in_ok-world.world
+    c.in_ok-world.ensures.leads c.args.head.now c.args.summary c.report_ended-text.result c.report_ended-text.ensures.text
 
 pub returns-clause-promises : goal.returns-clause-promises
 returns-clause-promises g c input =
-    let whole = complete_from g.F.Function.semantics _ _ c.in_ok-start.ensures _ c.in_ok-world.ensures.run in
-    every_run g.row.F.Denot g.F.Function.semantics g.met.F.Function.laws c.args.alloc c.args.config.now c.args.items.items input c.args.choices.now
-    whole.leads.is_run
+    IfOk-weaker c.report_ended-text.result _ _
+    (λ t done. every_run g.row.F.Denot g.F.Function.semantics g.met.F.Function.laws c.args.alloc c.args.config.now c.args.items.items input c.args.choices.now
+    c.in_ok-world.ensures.leads.is_run) c.report_ended-text.ensures.complete
 
 pub returns-clause-verdicts : goal.returns-clause-verdicts
 returns-clause-verdicts g c input =
-    let whole = complete_from g.F.Function.semantics _ _ c.in_ok-start.ensures _ c.in_ok-world.ensures.run in
-    verdicts g.row.F.Denot g.F.Function.semantics g.met.F.Function.laws c.args.alloc c.args.config.now c.args.items.items input c.args.choices.now
-    whole.leads.is_run
+    IfOk-weaker c.report_ended-text.result _ _
+    (λ t done. verdicts g.row.F.Denot g.F.Function.semantics g.met.F.Function.laws c.args.alloc c.args.config.now c.args.items.items input c.args.choices.now
+    c.in_ok-world.ensures.leads.is_run) c.report_ended-text.ensures.complete
 
 pub returns-clause-standbys : goal.returns-clause-standbys
 returns-clause-standbys g c input =
-    let whole = complete_from g.F.Function.semantics _ _ c.in_ok-start.ensures _ c.in_ok-world.ensures.run in
-    standbys g.row.F.Denot g.F.Function.semantics g.met.F.Function.laws c.args.alloc c.args.config.now c.args.items.items input c.args.choices.now
-    whole.leads.is_run
+    IfOk-weaker c.report_ended-text.result _ _
+    (λ t done. standbys g.row.F.Denot g.F.Function.semantics g.met.F.Function.laws c.args.alloc c.args.config.now c.args.items.items input c.args.choices.now
+    c.in_ok-world.ensures.leads.is_run) c.report_ended-text.ensures.complete
 
 pub returns-clause-completed : goal.returns-clause-completed
 returns-clause-completed g c input =
-    let whole = complete_from g.F.Function.semantics _ _ c.in_ok-start.ensures _ c.in_ok-world.ensures.run in
-    every_end g.row.F.Denot g.F.Function.semantics g.met.F.Function.laws c.args.alloc c.args.config.now c.args.items.items input c.args.choices.now
-    whole.leads.is_run whole.complete
+    IfOk-weaker c.report_ended-text.result _ _
+    (λ t done. every_end g.row.F.Denot g.F.Function.semantics g.met.F.Function.laws c.args.alloc c.args.config.now c.args.items.items input c.args.choices.now
+    c.in_ok-world.ensures.leads.is_run (complete g.F.Function.semantics _ _ _ c.in_ok-world.ensures.leads done).complete) c.report_ended-text.ensures.complete
 
 pub returns-clause-home : goal.returns-clause-home
 returns-clause-home g c input =
-    let whole = complete_from g.F.Function.semantics _ _ c.in_ok-start.ensures _ c.in_ok-world.ensures.run in
-    every_home g.row.F.Denot g.F.Function.semantics g.met.F.Function.laws c.args.alloc c.args.config.now c.args.items.items input c.args.choices.now
-    whole.leads.is_run whole.complete
+    IfOk-weaker c.report_ended-text.result _ _
+    (λ t done. every_home g.row.F.Denot g.F.Function.semantics g.met.F.Function.laws c.args.alloc c.args.config.now c.args.items.items input c.args.choices.now
+    c.in_ok-world.ensures.leads.is_run (complete g.F.Function.semantics _ _ _ c.in_ok-world.ensures.leads done).complete) c.report_ended-text.ensures.complete
+
+pub returns-clause-not_a_run : goal.returns-clause-not_a_run
+returns-clause-not_a_run g c = λ step is.
+    let said = c.report_ended-text.ensures.not_a_run step is in
+    short g.F.Function.semantics _ c.args.choices.now _ c.in_ok-world.ensures.leads said.1 step (cc)

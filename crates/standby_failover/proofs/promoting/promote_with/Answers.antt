@@ -1,8 +1,9 @@
 -- The scene is that of the world after the choices, in which all is as the lists say.
 use Rattle.std.proofs.Common.{refl, ap, ◌∙◌}
 use Rattle.net_world.specs.Start.{started_with}
+use Rattle.net_world.specs.Tables.{table_at}
 use Rattle.standby_failover.specs.Causes.{first_of, world_after}
-use Rattle.standby_failover.specs.Failover.{table_at, IsLeft, IsPromoted}
+use Rattle.standby_failover.specs.Failover.{IsLeft, IsPromoted}
 use Rattle.standby_failover.specs.Scenes.{AreAffected, Stopped, failover_in}
 use Rattle.standby_failover.proofs.Known.{known}
 use Rattle.standby_failover.proofs.LeftWorlds.{is_left}
@@ -45,7 +46,7 @@ promoted g c =
       left = left g c;
       two = c.requires.two;
     }) in
-    c.in_ok-promoted.ensures (failover_in f v) world refl (left g c) c.requires.two found
+    c.in_ok-promoted.ensures (failover_in f v) (c.in_ok-table.ensures ∙ ap (λ w. table_at w c.args.failing.now.to) world) (left g c) c.requires.two found
 
 pub returns-clause-promoted : goal.returns-clause-promoted
 returns-clause-promoted g c = promoted g c
