@@ -8,9 +8,11 @@
 pub mod config;
 pub mod ending;
 pub mod node;
+pub mod reading;
 pub mod starting;
 
 pub use config::Config;
 pub use ending::{discard, into_table};
 pub use node::Node;
+pub use reading::{is_complete, log_of, nodes_of};
 pub use starting::start;

@@ -13,7 +13,7 @@ ghost use Rattle.run_report.specs.Lines.{report_text};
 use crate::reporting::report;
 use actor_net::{Choices, World};
 use basics::Text;
-use net_world::{Config, Node, discard};
+use net_world::{Config, Node, discard, is_complete};
 use nf_function::Function;
 use nf_msgs::Msg;
 use nf_net::{AuditFault, run_course};
@@ -64,7 +64,7 @@ fn report_ended<F: Function>(
     ensures text { IfOk result (λ text. text ≡ report_text F.semantics head.now summary world.now) }
     ensures not_a_run { (step : ℕ) → result ≡ Err (AuditFault.NotARun step) → (step ≡ next) × (is_done node_ended world.now ≡ false) }
 {
-    if !world.complete() {
+    if !is_complete(world) {
         return Err(AuditFault::NotARun { step: next });
     }
     Ok(report(alloc, head, world, summary)?)

@@ -8,7 +8,7 @@ use crate::instances::{named_instances, push_lives};
 use actor_net::World;
 use basics::{NoMemory, Text};
 use flow_filter::Name;
-use net_world::Node;
+use net_world::{Node, log_of, nodes_of};
 use nf_function::Function;
 use nf_msgs::Note;
 use report_lines::{
@@ -26,7 +26,7 @@ pub fn report<F: Function>(
 ) -> Result<Text, NoMemory>
     ensures { IfOk result (λ text. text ≡ report_text F.semantics head.now summary world.now) }
 {
-    let found = named_instances(alloc, head.names.items(), world.nodes())?;
+    let found = named_instances(alloc, head.names.items(), nodes_of(world))?;
     let mut text = Text::open(alloc);
     push_report(alloc, &mut text, head, world, &found, summary)?;
     Ok(text)
@@ -77,8 +77,8 @@ fn push_whole<F: Function>(
     requires { found.now ≡ named_instances head.now.names world.now.nodes }
     ensures { OnOk result (text.new ≡ text.old ++ whole_lines F.semantics head.now world.now) }
 {
-    push_packets::<F>(alloc, text, head.names.items(), world.log())?;
-    push_answers(alloc, text, world.log())?;
+    push_packets::<F>(alloc, text, head.names.items(), log_of(world))?;
+    push_answers(alloc, text, log_of(world))?;
     push_records(alloc, text, found)
 }
 
@@ -122,6 +122,6 @@ fn push_summary<F: Function>(
     requires { found.now ≡ named_instances head.now.names world.now.nodes }
     ensures { OnOk result (text.new ≡ text.old ++ summary_lines head.now world.now) }
 {
-    push_answers(alloc, text, world.log())?;
+    push_answers(alloc, text, log_of(world))?;
     push_lives(text, found)
 }

@@ -16,7 +16,7 @@ use crate::scene::{Affected, Scene};
 use actor_net::Choices;
 use basics::NoMemory;
 use flow_filter::Packets;
-use net_world::{Config, into_table};
+use net_world::{Config, into_table, log_of};
 use nf_function::Function;
 use nf_msgs::Msg;
 use nf_net::AuditFault;
@@ -91,12 +91,13 @@ pub fn promote_with<F: Function>(
     let scene = Scene {
         site: config.site,
         packets: trace.items(),
-        log: world.log(),
+        log: log_of(&world),
         failed: table_of(&world, failing.failed),
         to: table_of(&world, failing.to),
     };
-    let affected = scene.affected(alloc)?;
+    let affected = scene.affected(alloc);
     let table = into_table(world, failing.to)?;
+    let affected = affected?;
     let promoted = promoted_from(table, affected)?;
     Ok(promoted)
 }

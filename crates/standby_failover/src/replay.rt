@@ -7,7 +7,7 @@ ghost use Rattle.net_world.specs.Tables.{is_instance, table_at};
 ghost use Rattle.standby_failover.specs.Causes.{IsFailCause, IsReached, first_of, world_after};
 
 use actor_net::{Choices, World};
-use net_world::{Config, Node, discard};
+use net_world::{Config, Node, discard, nodes_of};
 use nf_function::Function;
 use nf_msgs::{MOST_INSTANCES, Msg, instance_node};
 use nf_net::{AuditFault, run_course};
@@ -46,7 +46,7 @@ pub(crate) fn table_of<F: Function>(world: &World<Node<F>>, instance: u8) -> &Ta
     requires there { is_instance (slice_get world.now.nodes (instance_node instance)) ≡ true }
     ensures { result.now ≡ table_at world.now instance }
 {
-    match world.nodes().get(usize::from(instance_node(instance))) {
+    match nodes_of(world).get(usize::from(instance_node(instance))) {
         Some(Node::Instance(found)) => found.table(),
         _ => unreachable!(),
     }
