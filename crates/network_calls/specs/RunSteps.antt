@@ -1,10 +1,11 @@
 -- Steps between code and definition, which nobody has to believe: a network before its start, what can be shared, and why choices give no report.
-use Rattle.std.specs.Prelude.{◌≡◌, ◌≤◌, List, length}
+use Rattle.std.specs.Prelude.{◌≡◌, ◌≤◌, ℕ, List, length}
 use Rattle.flow_filter.specs.Limits.{most_packets}
 use Rattle.net_world.specs.Input.{IsInput}
 use Rattle.net_world.specs.Length.{IsShort}
 use Rattle.actor_net.specs.declared.choice.Choice.{Choice}
 use Rattle.command_words.specs.Requests.{FailAsked, NetworkAsked, StrongAsked}
+use Rattle.call_files.specs.declared.results.Made.{Made}
 use Rattle.call_files.specs.declared.status.Status.{Status}
 use Rattle.call_files.specs.declared.status.Status.TheVariants.{NoMemory, NotARun}
 use Rattle.call_files.specs.Scenarios.{Scenario}
@@ -18,6 +19,10 @@ use Rattle.network_calls.specs.StrongRuns.{sharing_for}
 use Rattle.op_script.specs.declared.fault.ScriptFault.TheVariants as script
 use Rattle.run_headline.specs.nf_net.specs.declared.course.AuditFault.{AuditFault}
 use Rattle.run_headline.specs.nf_net.specs.declared.course.AuditFault.TheVariants as audit
+
+-- what a run gives
+abbrev pub made_with : List Choice → (report : List ℕ) → Made
+made_with choices report = record { choices = choices; report = report }
 
 -- a network before its start, with what its report repeats
 pub record IsOpening (s : NetworkAsked) (scenario : Scenario) (opening : Opening) : Type 0 where

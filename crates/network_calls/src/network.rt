@@ -4,7 +4,8 @@ ghost use Rattle.command_words.specs.RequestViews.{network_view};
 ghost use Rattle.network_calls.specs.Ends.{EndLaw};
 ghost use Rattle.network_calls.specs.NetworkRuns.{HasRun, IsRunOf, run_given};
 ghost use Rattle.call_files.specs.Phases.{CanBegin, scenario_of, gives};
-ghost use Rattle.network_calls.specs.RunSteps.{IsOpening, IsRefusedRun, IsRefusedAs, audit_status};
+ghost use Rattle.network_calls.specs.RunSteps.{IsOpening, IsRefusedRun, IsRefusedAs, audit_status, made_with};
+ghost use Rattle.run_headline.specs.run_report.specs.Lines.{report_text};
 
 use crate::threads::run_network;
 use actor_net::{Choices, Schedule, ScheduleFault, World};
@@ -15,9 +16,8 @@ use basics::{NoMemory, TryCopy};
 use call_files::{Inputs, Made, Setting, Status, input_of};
 use command_words::NetworkRequest;
 use conn_tracker::Conntrack;
-use flow_filter::Text;
 use function_kinds::{ForFunction, for_kind};
-use net_world::{Config, Node};
+use net_world::{Config, Node, discard};
 use nf_function::{Function, Kind};
 use nf_msgs::Msg;
 use run_headline::{AuditFault, Head, audit, report, simulate};
@@ -164,13 +164,14 @@ fn schedule_network<F: Function>(
         items,
         head,
     } = open(alloc, asked, inputs)?;
-    let (world, choices) = match simulate::<F>(alloc, &config, items, schedule) {
+    let ended = simulate::<F>(alloc, &config, items, schedule);
+    drop(config);
+    let (world, choices) = match ended {
         Ok(ended) => ended,
         Err(ScheduleFault::Unfinished { step: _step }) => unreachable!(),
         Err(ScheduleFault::NoMemory) => return Err(NoMemory),
     };
-    let report = report::<F>(alloc, &head, &world, asked.summary)?;
-    Ok(Made { choices, report })
+    report_run(alloc, &head, world, choices, asked.summary)
 }
 
 /// Runs the network by threads.
@@ -193,8 +194,25 @@ where
         items,
         head,
     } = open(alloc, asked, inputs)?;
-    let (world, choices) = run_network::<R, F, G>(rt, alloc, &config, items, gate)?;
-    let report = report::<F>(alloc, &head, &world, asked.summary)?;
+    let ended = run_network::<R, F, G>(rt, alloc, &config, items, gate);
+    drop(config);
+    let (world, choices) = ended?;
+    report_run(alloc, &head, world, choices, asked.summary)
+}
+
+/// What comes of a run that led to a world. The world is dropped.
+fn report_run<F: Function>(
+    alloc: Global,
+    head: &Head,
+    world: World<Node<F>>,
+    choices: Choices,
+    summary: bool,
+) -> Result<Made, NoMemory>
+    ensures { IfOk result (λ made. made ≡ made_with choices (report_text F.semantics head.now summary world)) }
+{
+    let report = report(alloc, head, &world, summary);
+    discard(world);
+    let report = report?;
     Ok(Made { choices, report })
 }
 
@@ -217,7 +235,9 @@ fn tell_network<F: Function>(
         items,
         head,
     } = open(alloc, asked, inputs)?;
-    match audit::<F>(alloc, &config, items, &head, &choices, asked.summary) {
+    let audited = audit::<F>(alloc, &config, items, &head, &choices, asked.summary);
+    drop(config);
+    match audited {
         Ok(report) => Ok(Made { choices, report }),
         Err(fault) => Err(status_of(fault)),
     }
@@ -250,10 +270,13 @@ pub(crate) fn open(
     };
     let Inputs { script, trace } = inputs;
     let end = trace.end();
-    let (config, items) = input_of(alloc, &setting, &script, trace.into_packets())?;
+    let made = input_of(alloc, &setting, &script, trace.into_packets());
+    drop(script);
+    let (config, items) = made?;
+    let names = config.names.copy()?;
     let head = Head {
         kind: asked.kind,
-        names: config.names.copy()?,
+        names,
         window: asked.window,
         packets: end.packets,
         skipped: end.skipped,

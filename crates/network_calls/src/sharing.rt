@@ -5,19 +5,20 @@ ghost use Rattle.trace_reader.specs.Records.{AreNumbered};
 ghost use Rattle.trace_reader.specs.Steered.{is_steered_proto};
 ghost use Rattle.flow_filter.specs.Packet.{IsInRange};
 ghost use Rattle.command_words.specs.RequestViews.{strong_view};
-ghost use Rattle.network_calls.specs.RunSteps.{CanShare};
+ghost use Rattle.network_calls.specs.RunSteps.{CanShare, made_with};
 ghost use Rattle.call_files.specs.Phases.{reports};
+ghost use Rattle.strong_share.specs.Report.{strong_text};
 ghost use Rattle.network_calls.specs.StrongRuns.{HasSharing, IsSharingHead, IsSharingOf, sharing_scene};
 
 use crate::ranges::are_in_range;
-use actor_net::{Schedule, ScheduleFault};
+use actor_net::{Choices, Schedule, ScheduleFault, World};
 use basics::NoMemory;
 use call_files::Made;
 use command_words::StrongRequest;
 use function_kinds::{ForFunction, for_kind};
 use nf_function::Function;
 use std::alloc::Global;
-use strong_share::{StrongHead, report_strong, simulate_strong};
+use strong_share::{StrongHead, StrongNode, report_strong, simulate_strong};
 use trace_reader::Trace;
 
 /// Runs strong sharing by a schedule. Its members have the function that the words name.
@@ -97,7 +98,21 @@ fn share_network<F: Function>(
         Err(ScheduleFault::Unfinished { step: _step }) => unreachable!(),
         Err(ScheduleFault::NoMemory) => return Err(NoMemory),
     };
-    let report = report_strong::<F>(alloc, &head, &world)?;
+    report_sharing(alloc, &head, world, choices)
+}
+
+/// What comes of a run that led to a world. The world is dropped.
+fn report_sharing<F: Function>(
+    alloc: Global,
+    head: &StrongHead,
+    world: World<StrongNode<F>>,
+    choices: Choices,
+) -> Result<Made, NoMemory>
+    ensures { IfOk result (λ made. made ≡ made_with choices (strong_text F.semantics head.now world)) }
+{
+    let report = report_strong(alloc, head, &world);
+    drop(world);
+    let report = report?;
     Ok(Made { choices, report })
 }
 

@@ -5,12 +5,14 @@ ghost use Rattle.trace_reader.specs.Records.{AreNumbered};
 ghost use Rattle.trace_reader.specs.Steered.{is_steered_proto};
 ghost use Rattle.flow_filter.specs.Packet.{IsInRange};
 ghost use Rattle.command_words.specs.RequestViews.{published_view};
+ghost use Rattle.two_phase.specs.Report.{two_text};
 ghost use Rattle.two_phase.specs.Start.{IsUpdateJob};
 ghost use Rattle.call_files.specs.Phases.{reports};
+ghost use Rattle.network_calls.specs.RunSteps.{made_with};
 ghost use Rattle.network_calls.specs.UpdateRuns.{HasUpdate, IsUpdateOf, scene_of, update_for};
 
 use crate::ranges::are_in_range;
-use actor_net::{Schedule, ScheduleFault};
+use actor_net::{Choices, Schedule, ScheduleFault, World};
 use basics::NoMemory;
 use call_files::Made;
 use command_words::Publishing;
@@ -18,7 +20,7 @@ use function_kinds::{ForFunction, for_kind};
 use nf_function::Function;
 use std::alloc::Global;
 use trace_reader::Trace;
-use two_phase::{TwoHead, report_two, simulate_two};
+use two_phase::{TwoHead, TwoNode, report_two, simulate_two};
 
 /// Runs an update by a schedule. Its instances have the function that the words name.
 pub fn run_update(
@@ -106,6 +108,20 @@ fn update_network<F: Function>(
         Err(ScheduleFault::Unfinished { step: _step }) => unreachable!(),
         Err(ScheduleFault::NoMemory) => return Err(NoMemory),
     };
-    let report = report_two::<F>(alloc, &head, &world)?;
+    report_update(alloc, &head, world, choices)
+}
+
+/// What comes of a run that led to a world. The world is dropped.
+fn report_update<F: Function>(
+    alloc: Global,
+    head: &TwoHead,
+    world: World<TwoNode<F>>,
+    choices: Choices,
+) -> Result<Made, NoMemory>
+    ensures { IfOk result (λ made. made ≡ made_with choices (two_text F.semantics head.now world)) }
+{
+    let report = report_two(alloc, head, &world);
+    drop(world);
+    let report = report?;
     Ok(Made { choices, report })
 }

@@ -1,12 +1,16 @@
 -- The run of a schedule is that of the words, the script and the capture. The schedule comes to its end.
-use Rattle.std.proofs.Common.{Some, Err, ap, sym, ◌≡◌, ◌∙◌, subst}
+use Rattle.std.proofs.Common.{Some, ap, refl, rules, sym, ◌≡◌, ◌∙◌, subst}
+use Rattle.std.proofs.lemmas.Result.{IfOk-weaker}
 use Rattle.nf_function.specs.declared.kind.Kind.{Kind}
 use Rattle.command_words.specs.RequestViews.{network_view}
 use Rattle.run_headline.specs.nf_net.proofs.length.ShortRuns.{short_runs}
 use Rattle.net_world.specs.Input.{IsInput}
 use Rattle.net_world.specs.Runs.{LeadsTo, choices_of}
 use Rattle.net_world.specs.Start.{started_with}
-use Rattle.call_files.specs.Phases.{scenario_of}
+use Rattle.call_files.specs.Phases.{gives, scenario_of}
+use Rattle.run_headline.specs.run_report.specs.Lines.{report_text}
+use Rattle.network_calls.specs.NetworkRuns.{IsRunOf, run_given}
+use Rattle.network_calls.specs.RunSteps.{made_with}
 use Rattle.network_calls.proofs.RunLemmas.{run_of}
 use Rattle.network_calls.proofs.RunsEnd.{never_stops}
 use Rattle.network_calls.proofs.network.schedule_network.Goals as goal
@@ -17,7 +21,7 @@ unreachable-requires g c =
     let is = c.in_ok-config.ensures in
     let input = subst (λ (k : Kind). IsInput k opening.config opening.items.items) (sym c.requires.kind) is.is_input in
     never_stops g.row.F.Denot g.F.Function.semantics g.met.F.Function.laws c.args.alloc opening.config opening.items.items input is.short c.args.schedule
-    c.in-Err-Unfinished._step (c.in-Err-Unfinished.ensures.unfinished c.in-Err-Unfinished._step (ap Err c.in-Err-Unfinished.field-0-is))
+    c.in-Err-Unfinished._step (c.simulate-ended.ensures.unfinished c.in-Err-Unfinished._step (search rules))
 
 pub returns : goal.returns
 returns g c =
@@ -27,9 +31,14 @@ returns g c =
     let start = started_with {F = g.row.F.Denot} {R = g.row.F-Record.Denot} c.args.alloc opening.config opening.items.items in
     let input = subst (λ (k : Kind). IsInput k opening.config opening.items.items) (sym c.requires.kind) is.is_input in
     let leads = subst (λ cs. LeadsTo f start cs c.in-Ok.ended.0) (sym c.in-Ok.ensures.choices) c.in-Ok.ensures.end.leads in
-    run_of g.row.F.Denot f (network_view c.args.asked.now) (scenario_of c.args.asked.now.site c.args.inputs) c.args.alloc opening.config opening.items.items
-    opening.head is.config is.items
-    g.met.F.Function.laws (Some c.args.schedule) (record { choices = c.in-Ok.ended.1; report = c.in_ok-report.report }) c.in-Ok.ended.0
+    let s = network_view c.args.asked.now in
+    let scenario = scenario_of c.args.asked.now.site c.args.inputs in
+    let text = report_text f opening.head s.summary c.in-Ok.ended.0 in
+    IfOk-weaker c.report_run.result (λ made. made ≡ made_with c.in-Ok.ended.1 text)
+    (λ made. IsRunOf (run_given g.row.F.Denot f s scenario) (Some c.args.schedule) (gives s made))
+    (λ made made_is. subst (λ m. IsRunOf (run_given g.row.F.Denot f s scenario) (Some c.args.schedule) (gives s m)) (sym made_is)
+    (run_of g.row.F.Denot f s scenario c.args.alloc opening.config opening.items.items opening.head is.config is.items g.met.F.Function.laws
+    (Some c.args.schedule) (made_with c.in-Ok.ended.1 text) c.in-Ok.ended.0
     (record {
       leads = leads;
       complete = c.in-Ok.ensures.end.complete;
@@ -42,4 +51,4 @@ returns g c =
       input = is.is_input;
       kind = c.requires.kind;
     }) (λ schedule same. let by : c.args.schedule ≡ schedule = cc in c.in-Ok.ensures.choices ∙ ap (λ k. choices_of {F = g.row.F.Denot} f start k) by)
-    is.head c.in_ok-report.ensures
+    is.head refl)) c.report_run.ensures

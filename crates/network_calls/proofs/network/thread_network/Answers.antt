@@ -1,7 +1,11 @@
 -- The run of threads is that of the words, the script and the capture.
-use Rattle.std.proofs.Common.{None}
+use Rattle.std.proofs.Common.{◌≡◌, None, refl, subst, sym}
+use Rattle.std.proofs.lemmas.Result.{IfOk-weaker}
 use Rattle.command_words.specs.RequestViews.{network_view}
-use Rattle.call_files.specs.Phases.{scenario_of}
+use Rattle.call_files.specs.Phases.{gives, scenario_of}
+use Rattle.run_headline.specs.run_report.specs.Lines.{report_text}
+use Rattle.network_calls.specs.NetworkRuns.{IsRunOf, run_given}
+use Rattle.network_calls.specs.RunSteps.{made_with}
 use Rattle.network_calls.proofs.RunLemmas.{run_of}
 use Rattle.network_calls.proofs.network.thread_network.Goals as goal
 
@@ -9,10 +13,16 @@ pub returns : goal.returns
 returns g c =
     let opening = c.in_ok-config.field-0 in
     let is = c.in_ok-config.ensures in
-    run_of g.row.F.Denot g.F.Function.semantics (network_view c.args.asked.now) (scenario_of c.args.asked.now.site c.args.inputs) c.args.alloc
-    opening.config opening.items.items opening.head is.config is.items
+    let f = g.F.Function.semantics in
+    let s = network_view c.args.asked.now in
+    let scenario = scenario_of c.args.asked.now.site c.args.inputs in
+    let text = report_text f opening.head s.summary c.in_ok-world.world in
+    IfOk-weaker c.report_run.result (λ made. made ≡ made_with c.in_ok-world.choices text)
+    (λ made. IsRunOf (run_given g.row.F.Denot f s scenario) None (gives s made))
+    (λ made made_is. subst (λ m. IsRunOf (run_given g.row.F.Denot f s scenario) None (gives s m)) (sym made_is)
+    (run_of g.row.F.Denot f s scenario c.args.alloc opening.config opening.items.items opening.head is.config is.items
     (g.met.F.Function g.world.𝓛 g.world.𝓜 g.world.𝓡 ((λ s x. x), (λ x. x), (λ x. x), λ x. x)).laws None
-    (record { choices = c.in_ok-world.choices; report = c.in_ok-report.report }) c.in_ok-world.world
+    (made_with c.in_ok-world.choices text) c.in_ok-world.world
     (record {
       leads = c.in_ok-world.ensures.leads;
       complete = c.in_ok-world.ensures.complete;
@@ -24,4 +34,4 @@ returns g c =
       few = c.in_ok-world.ensures.few is.short;
       input = is.is_input;
       kind = c.requires.kind;
-    }) (λ schedule same. cc) is.head c.in_ok-report.ensures
+    }) (λ schedule same. cc) is.head refl)) c.report_run.ensures

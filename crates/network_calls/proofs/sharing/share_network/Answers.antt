@@ -1,14 +1,17 @@
 -- The sharing of a schedule is that of the words and the capture. The schedule comes to its end.
 use Rattle.std.proofs.Common.{◌≡◌, arith, refl, rules, subst, sym}
+use Rattle.std.proofs.lemmas.Result.{IfOk-weaker}
 use Rattle.nf_function.specs.declared.kind.Kind.{Kind}
 use Rattle.command_words.specs.RequestViews.{strong_view}
 use Rattle.strong_share.specs.Promises.{StrongCompleted, StrongEnds, StrongPromises}
+use Rattle.strong_share.specs.Report.{strong_text}
 use Rattle.strong_share.specs.Runs.{LeadsTo, choices_of}
 use Rattle.strong_share.specs.Start.{IsStrongJob, StrongJob, strong_start}
-use Rattle.run_headline.specs.Strong.{HasStrongHeadline}
-use Rattle.run_headline.specs.StrongLaw.{IsStrongRun, strong_subject}
+use Rattle.run_headline.specs.StrongLaw.{IsStrongRun}
 use Rattle.run_headline.proofs.others.StrongTexts.{strong_law}
-use Rattle.network_calls.specs.StrongRuns.{sharing_for, sharing_scene}
+use Rattle.call_files.specs.Phases.{reports}
+use Rattle.network_calls.specs.RunSteps.{made_with}
+use Rattle.network_calls.specs.StrongRuns.{IsSharingOf, sharing_for, sharing_scene}
 use Rattle.network_calls.proofs.CapturedJobs.{same_sharing}
 use Rattle.network_calls.proofs.sharing.share_network.Goals as goal
 
@@ -22,7 +25,7 @@ simulate_strong-ended-requires g c =
 
 pub unreachable-requires : goal.unreachable-requires
 unreachable-requires g c =
-    let more = c.in-Err-Unfinished.ensures-1.unfinished c.in-Err-Unfinished._step (search rules) in
+    let more = c.simulate_strong-ended.ensures.unfinished c.in-Err-Unfinished._step (search rules) in
     let few = c.requires.sound.few in
     omega (arith, more, few)
 
@@ -44,7 +47,8 @@ returns g c =
       leads = leads;
       complete = c.in-Ok.ensures.complete;
     } in
-    record {
+    let text = strong_text f c.in_ok-head.head c.in-Ok.ended.0 in
+    let of : IsSharingOf g.row.F.Denot f s scene c.args.schedule (reports (made_with c.in-Ok.ended.1 text)) = record {
       alloc = alloc;
       world = c.in-Ok.ended.0;
       scheduled = subst (λ (j : StrongJob). c.in-Ok.ended.1 ≡ choices_of {F = g.row.F.Denot} f (strong_start alloc j) c.args.schedule) same
@@ -56,7 +60,9 @@ returns g c =
       ends = subst (λ (j : StrongJob). StrongEnds j c.in-Ok.ended.1 c.in-Ok.ended.0) same c.in-Ok.ensures.ends;
       head = c.in_ok-head.head;
       is_head = c.in_ok-head.ensures;
-      report = c.in_ok-report.ensures;
-      headline = subst (HasStrongHeadline (strong_subject f s.names job) scene.filter c.in_ok-head.head) (sym c.in_ok-report.ensures)
-          (strong_law g.row.F.Denot f g.met.F.Function.laws s.names job c.in-Ok.ended.0 is c.in_ok-head.head c.in_ok-head.ensures.names);
-    }
+      report = refl;
+      headline = strong_law g.row.F.Denot f g.met.F.Function.laws s.names job c.in-Ok.ended.0 is c.in_ok-head.head c.in_ok-head.ensures.names;
+    } in
+    IfOk-weaker c.report_sharing.result (λ made. made ≡ made_with c.in-Ok.ended.1 text)
+    (λ made. IsSharingOf g.row.F.Denot f s scene c.args.schedule (reports made))
+    (λ made made_is. subst (λ m. IsSharingOf g.row.F.Denot f s scene c.args.schedule (reports m)) (sym made_is) of) c.report_sharing.ensures

@@ -1,5 +1,6 @@
 -- The update of a schedule is that of the words and the capture. The schedule comes to its end.
-use Rattle.std.proofs.Common.{List, length, ap, sym, subst, ◌∙◌}
+use Rattle.std.proofs.Common.{◌≡◌, List, length, ap, refl, sym, subst, ◌∙◌}
+use Rattle.std.proofs.lemmas.Result.{IfOk-weaker}
 use Rattle.flow_filter.specs.declared.packet.Packet.{Packet}
 use Rattle.nf_function.specs.declared.kind.Kind.{Kind}
 use Rattle.command_words.specs.RequestViews.{published_view}
@@ -9,10 +10,11 @@ use Rattle.actor_net.specs.Network.{IsRun}
 use Rattle.actor_net.proofs.ScheduleLaws.{scheduled_is_run}
 use Rattle.two_phase.specs.Start.{IsUpdateJob, two_start}
 use Rattle.two_phase.specs.Tables.{node_ended, node_ready, node_step}
-use Rattle.run_headline.specs.Published.{HasPublishedHeadline}
 use Rattle.run_headline.specs.PublishedLaw.{IsTwoRun, two_subject}
 use Rattle.run_headline.proofs.others.TwoHeadlines.{published_law}
-use Rattle.network_calls.specs.UpdateRuns.{scene_of, update_for, update_head}
+use Rattle.call_files.specs.Phases.{reports}
+use Rattle.network_calls.specs.RunSteps.{made_with}
+use Rattle.network_calls.specs.UpdateRuns.{IsUpdateOf, scene_of, update_for, update_head}
 use Rattle.network_calls.proofs.update.update_network.Goals as goal
 
 pub simulate_two-ended-requires : goal.simulate_two-ended-requires
@@ -26,9 +28,10 @@ returns g c =
     let p = published_view c.args.asked.now in
     let trace = c.args.trace in
     let job = update_for p (scene_of c.args.asked.now trace) in
-    let report = c.in_ok-report.ensures
-    ∙ ap (λ (l : List Packet). two_text f (record { kind = p.kind; window = p.window; packets = length l; skipped = trace.skipped; cut = trace.cut })
-    c.in-Ok.ended.0) c.items.ensures in
+    let text = two_text f (update_head p trace) c.in-Ok.ended.0 in
+    let same_text : two_text f (record { kind = p.kind; window = p.window; packets = length c.items.result.now; skipped = trace.skipped; cut = trace.cut })
+    c.in-Ok.ended.0 ≡ text = ap (λ (l : List Packet). two_text f
+    (record { kind = p.kind; window = p.window; packets = length l; skipped = trace.skipped; cut = trace.cut }) c.in-Ok.ended.0) c.items.ensures in
     let is : IsTwoRun g.row.F.Denot f job c.in-Ok.ended.0 = record {
       is_job = subst (λ (k : Kind). IsUpdateJob k job) (sym c.requires.kind) c.requires.sound;
       alloc = c.args.alloc;
@@ -38,14 +41,17 @@ returns g c =
       reached = c.in-Ok.ensures.world;
       complete = c.in-Ok.ensures.complete;
     } in
-    record {
+    let of : IsUpdateOf g.row.F.Denot f p (scene_of c.args.asked.now trace) c.args.schedule (reports (made_with c.in-Ok.ended.1 text)) = record {
       alloc = c.args.alloc;
       world = c.in-Ok.ended.0;
       scheduled = c.in-Ok.ensures.choices;
       reached = c.in-Ok.ensures.world;
       complete = c.in-Ok.ensures.complete;
       published = c.in-Ok.ensures.published;
-      report = report;
-      headline = subst (HasPublishedHeadline (two_subject f job) job.filter (update_head p trace)) (sym report)
-          (published_law g.row.F.Denot f g.met.F.Function.laws job c.in-Ok.ended.0 is (update_head p trace));
-    }
+      report = refl;
+      headline = published_law g.row.F.Denot f g.met.F.Function.laws job c.in-Ok.ended.0 is (update_head p trace);
+    } in
+    IfOk-weaker c.report_update.result (λ made. made ≡ made_with c.in-Ok.ended.1 _)
+    (λ made. IsUpdateOf g.row.F.Denot f p (scene_of c.args.asked.now trace) c.args.schedule (reports made))
+    (λ made made_is. subst (λ m. IsUpdateOf g.row.F.Denot f p (scene_of c.args.asked.now trace) c.args.schedule (reports m))
+    (sym (made_is ∙ ap (made_with c.in-Ok.ended.1) same_text)) of) c.report_update.ensures
