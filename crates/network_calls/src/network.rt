@@ -9,7 +9,6 @@ ghost use Rattle.run_headline.specs.run_report.specs.Lines.{report_text};
 
 use crate::threads::run_network;
 use actor_net::{Choices, Schedule, ScheduleFault, World};
-use actor_threads::Gate;
 use addr_translator::Nat;
 use asset_monitor::Monitor;
 use basics::{NoMemory, TryCopy};
@@ -17,6 +16,7 @@ use call_files::{Inputs, Made, Setting, Status, input_of};
 use command_words::NetworkRequest;
 use conn_tracker::Conntrack;
 use function_kinds::{ForFunction, for_kind};
+use net_threads::Gate;
 use net_world::{Config, Node, discard};
 use nf_function::{Function, Kind};
 use nf_msgs::Msg;

@@ -18,7 +18,7 @@ use command_words::StrongRequest;
 use function_kinds::{ForFunction, for_kind};
 use nf_function::Function;
 use std::alloc::Global;
-use strong_share::{StrongHead, StrongNode, report_strong, simulate_strong};
+use strong_share::{StrongHead, StrongNode, discard, report_strong, simulate_strong};
 use trace_reader::Trace;
 
 /// Runs strong sharing by a schedule. Its members have the function that the words name.
@@ -111,7 +111,7 @@ fn report_sharing<F: Function>(
     ensures { IfOk result (λ made. made ≡ made_with choices (strong_text F.semantics head.now world)) }
 {
     let report = report_strong(alloc, head, &world);
-    drop(world);
+    discard(world);
     let report = report?;
     Ok(Made { choices, report })
 }

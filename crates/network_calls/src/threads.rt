@@ -12,8 +12,8 @@ ghost use Rattle.net_world.specs.Start.{started_with};
 ghost use Rattle.net_world.specs.Window.{AllHome};
 
 use actor_net::{Choices, World};
-use actor_threads::{Gate, run_threads};
 use basics::NoMemory;
+use net_threads::{Gate, run_world};
 use net_world::{Config, Node, start};
 use nf_function::Function;
 use nf_msgs::Msg;
@@ -45,6 +45,6 @@ where
     ensures few { IsShort items.items → IfOk result (λ r. length r.1 < MOST_CHOICES) }
 {
     let opening = start::<F>(alloc, config, items)?;
-    let (world, choices) = run_threads(rt, alloc, opening, gate)?;
+    let (world, choices) = run_world(rt, alloc, opening, gate)?;
     Ok((world, choices))
 }

@@ -20,7 +20,7 @@ use function_kinds::{ForFunction, for_kind};
 use nf_function::Function;
 use std::alloc::Global;
 use trace_reader::Trace;
-use two_phase::{TwoHead, TwoNode, report_two, simulate_two};
+use two_phase::{TwoHead, TwoNode, discard, report_two, simulate_two};
 
 /// Runs an update by a schedule. Its instances have the function that the words name.
 pub fn run_update(
@@ -121,7 +121,7 @@ fn report_update<F: Function>(
     ensures { IfOk result (λ made. made ≡ made_with choices (two_text F.semantics head.now world)) }
 {
     let report = report_two(alloc, head, &world);
-    drop(world);
+    discard(world);
     let report = report?;
     Ok(Made { choices, report })
 }

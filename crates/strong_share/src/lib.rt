@@ -24,6 +24,6 @@ pub use member::Member;
 pub use node::StrongNode;
 pub use note::StrongNote;
 pub use report::{StrongHead, report_strong};
-pub use run::{run_strong, simulate_strong};
+pub use run::{discard, run_strong, simulate_strong};
 pub use starting::start;
 pub use switch::StrongSwitch;

@@ -56,3 +56,8 @@ pub fn run_strong<F: Function>(
 {
     replay(world, choices)
 }
+
+/// Drops a world that is done with, as `drop` does: what nodes and links are dropped by is proved here, and not in each crate above.
+pub fn discard<F: Function>(world: World<StrongNode<F>>) {
+    drop(world);
+}

@@ -114,26 +114,34 @@ static RUNS: [(Case, &str); 8] = [
     // A move keeps the order of its flow.
     (
         CASE,
-        "came 1\ncame 2\nbegun 1\ndid 1 at 0 single\ncame 3\ndid 2 at 0 single\ncame 5\ndid 3 at 0 single\ndid 5 at 0 single\ngave at 0 units 1\ntook at 1 units 1\ninstalled 1\nanswered 1 done\nlive single out packets 1 bytes 20\n--\nlive single out packets 3 bytes 60\n--\n",
+        "came 1\ncame 2\nbegun 1\ndid 1 at 0 single\ncame 3\ndid 2 at 0 single\ncame 5\ndid 3 at 0 single\n\
+         did 5 at 0 single\ngave at 0 units 1\ntook at 1 units 1\ninstalled 1\nanswered 1 done\n\
+         live single out packets 1 bytes 20\n--\nlive single out packets 3 bytes 60\n--\n",
     ),
     (
         Case {
             schedule: Schedule::Last,
             ..CASE
         },
-        "came 1\ndid 1 at 0 single\nbegun 1\ngave at 0 units 1\ntook at 1 units 1\ninstalled 1\nanswered 1 done\ncame 2\ndid 2 at 0 single\ncame 3\ndid 3 at 1 single\ncame 5\ndid 5 at 1 single\nlive single out packets 1 bytes 20\n--\nlive single out packets 3 bytes 60\n--\n",
+        "came 1\ndid 1 at 0 single\nbegun 1\ngave at 0 units 1\ntook at 1 units 1\ninstalled 1\nanswered 1 done\ncame 2\n\
+         did 2 at 0 single\ncame 3\ndid 3 at 1 single\ncame 5\ndid 5 at 1 single\nlive single out packets 1 bytes 20\n\
+         --\nlive single out packets 3 bytes 60\n--\n",
     ),
     (
         Case {
             schedule: Schedule::Number(29),
             ..CASE
         },
-        "came 1\nbegun 1\ngave at 0 units 0\ncame 2\ndid 2 at 0 single\ntook at 1 units 0\ncame 3\ndid 1 at 1 single\ninstalled 1\ndid 3 at 1 single\ncame 5\ndid 5 at 1 single\nanswered 1 done\nlive single out packets 1 bytes 20\n--\nlive single out packets 3 bytes 60\n--\n",
+        "came 1\nbegun 1\ngave at 0 units 0\ncame 2\ndid 2 at 0 single\ntook at 1 units 0\ncame 3\ndid 1 at 1 single\n\
+         installed 1\ndid 3 at 1 single\ncame 5\ndid 5 at 1 single\nanswered 1 done\nlive single out packets 1 bytes 20\n\
+         --\nlive single out packets 3 bytes 60\n--\n",
     ),
     // What the destination refuses goes back: where it is full, and where it takes no chunks of version 2.
     (
         Case { limit: 0, ..CASE },
-        "came 1\ncame 2\nbegun 1\ndid 1 at 0 single\ncame 3\ndid 2 at 0 single\ncame 5\ndid 3 at 0 single\ndid 5 at 0 single\ngave at 0 units 1\ntook at 0 units 1\nanswered 1 import 0 1 0\nlive single out packets 1 bytes 20\nlive single out packets 3 bytes 60\n--\n--\n",
+        "came 1\ncame 2\nbegun 1\ndid 1 at 0 single\ncame 3\ndid 2 at 0 single\ncame 5\ndid 3 at 0 single\n\
+         did 5 at 0 single\ngave at 0 units 1\ntook at 0 units 1\nanswered 1 import 0 1 0\n\
+         live single out packets 1 bytes 20\nlive single out packets 3 bytes 60\n--\n--\n",
     ),
     (
         Case {
@@ -142,7 +150,9 @@ static RUNS: [(Case, &str); 8] = [
             nanos: 7,
             ..CASE
         },
-        "came 1\ndid 1 at 0 single\nbegun 1\ngave at 0 units 1\ntook at 0 units 1\nanswered 1 old 2 1\ncame 2\ndid 2 at 0 single\ncame 3\ndid 3 at 0 single\ncame 5\ndid 5 at 0 single\nlive single out packets 1 bytes 20 seen 7\nlive single out packets 3 bytes 60 seen 7\n--\n--\n",
+        "came 1\ndid 1 at 0 single\nbegun 1\ngave at 0 units 1\ntook at 0 units 1\nanswered 1 old 2 1\ncame 2\n\
+         did 2 at 0 single\ncame 3\ndid 3 at 0 single\ncame 5\ndid 5 at 0 single\n\
+         live single out packets 1 bytes 20 seen 7\nlive single out packets 3 bytes 60 seen 7\n--\n--\n",
     ),
     // A copy takes the records of its moment while packets flow.
     (
@@ -150,7 +160,9 @@ static RUNS: [(Case, &str); 8] = [
             asked: Asked::Copy,
             ..CASE
         },
-        "came 1\ncame 2\nbegun 1\ndid 1 at 0 single\ncame 3\ndid 2 at 0 single\ncame 5\ndid 3 at 0 single\ndid 5 at 0 single\ngave at 0 units 1\nkept at 1 units 1\nanswered 1 done\nlive single out packets 1 bytes 20\nlive single out packets 3 bytes 60\n--\nstandby single out packets 3 bytes 60\n--\n",
+        "came 1\ncame 2\nbegun 1\ndid 1 at 0 single\ncame 3\ndid 2 at 0 single\ncame 5\ndid 3 at 0 single\n\
+         did 5 at 0 single\ngave at 0 units 1\nkept at 1 units 1\nanswered 1 done\nlive single out packets 1 bytes 20\n\
+         live single out packets 3 bytes 60\n--\nstandby single out packets 3 bytes 60\n--\n",
     ),
     (
         Case {
@@ -158,7 +170,9 @@ static RUNS: [(Case, &str); 8] = [
             schedule: Schedule::Last,
             ..CASE
         },
-        "came 1\ndid 1 at 0 single\nbegun 1\ngave at 0 units 1\nkept at 1 units 1\nanswered 1 done\ncame 2\ndid 2 at 0 single\ncame 3\ndid 3 at 0 single\ncame 5\ndid 5 at 0 single\nlive single out packets 1 bytes 20\nlive single out packets 3 bytes 60\n--\nstandby single out packets 1 bytes 20\n--\n",
+        "came 1\ndid 1 at 0 single\nbegun 1\ngave at 0 units 1\nkept at 1 units 1\nanswered 1 done\ncame 2\n\
+         did 2 at 0 single\ncame 3\ndid 3 at 0 single\ncame 5\ndid 5 at 0 single\nlive single out packets 1 bytes 20\n\
+         live single out packets 3 bytes 60\n--\nstandby single out packets 1 bytes 20\n--\n",
     ),
     // A share hands each record on before its next packet.
     (
@@ -167,7 +181,10 @@ static RUNS: [(Case, &str); 8] = [
             schedule: Schedule::Last,
             ..CASE
         },
-        "came 1\ndid 1 at 0 single\nbegun 1\ninstalled 1\ngave at 0 units 1\nkept at 1 units 1\nanswered 1 done\ncame 2\ndid 2 at 0 single\ncame 3\ndid 3 at 1 single\nkept at 0 units 1\ncame 5\ndid 5 at 1 single\nkept at 0 units 1\nanswered 2 overlap 1\nlive single out packets 1 bytes 20\nlive single out packets 3 bytes 60\n--\nstandby single out packets 3 bytes 60\n--\n",
+        "came 1\ndid 1 at 0 single\nbegun 1\ninstalled 1\ngave at 0 units 1\nkept at 1 units 1\nanswered 1 done\ncame 2\n\
+         did 2 at 0 single\ncame 3\ndid 3 at 1 single\nkept at 0 units 1\ncame 5\ndid 5 at 1 single\nkept at 0 units 1\n\
+         answered 2 overlap 1\nlive single out packets 1 bytes 20\nlive single out packets 3 bytes 60\n--\n\
+         standby single out packets 3 bytes 60\n--\n",
     ),
 ];
 

@@ -26,6 +26,6 @@ pub use node::TwoNode;
 pub use note::TwoNote;
 pub use phase::Phase;
 pub use report::{TwoHead, report_two};
-pub use run::{run_two, simulate_two};
+pub use run::{discard, run_two, simulate_two};
 pub use starting::start;
 pub use switch::TwoSwitch;

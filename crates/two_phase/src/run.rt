@@ -50,3 +50,8 @@ pub fn simulate_two<F: Function>(
     let world = start::<F>(alloc, site, window, filter, at, packets)?;
     run_schedule(alloc, world, schedule)
 }
+
+/// Drops a world that is done with, as `drop` does: what nodes and links are dropped by is proved here, and not in each crate above.
+pub fn discard<F: Function>(world: World<TwoNode<F>>) {
+    drop(world);
+}

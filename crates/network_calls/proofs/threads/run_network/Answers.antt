@@ -12,9 +12,8 @@ returns g c =
     let f = g.F.Function.semantics in
     -- the function may be sent, so its laws hold in every thread, and in this one
     let laws = (g.met.F.Function g.world.𝓛 g.world.𝓜 g.world.𝓡 ((λ s x. x), (λ x. x), (λ x. x), λ x. x)).laws in
-    let run = c.in_ok-world.ensures.run in
     let leads = subst (λ v. LeadsTo {F = g.row.F.Denot} f v c.in_ok-world.choices c.in_ok-world.world) c.in_ok-opening.ensures
-    (record { is_run = run.0; reached = run.1 }) in
+    c.in_ok-world.ensures.leads in
     let all = keeps_all g.row.F.Denot f laws c.args.alloc c.args.config.now c.args.items.items c.requires c.in_ok-world.choices c.in_ok-world.world leads
     c.in_ok-world.ensures.complete in
     record {
