@@ -61,15 +61,44 @@ class Step:
 # --- The switch ---
 
 
-class Switch:
+class Windowed:
+    """What the switches of all networks have: a window of packets that may be under way."""
+
+    def __init__(self, window):
+        self.window = window
+        self.flying = 0  # packets under way
+        self.closed = False
+
+    def is_ready(self, item):
+        return item[0] != "packet" or self.flying < self.window
+
+    def has_ended(self):
+        return self.closed and self.flying == 0
+
+    def let_in(self, parcel, step):
+        self.flying += 1
+        step.note("arrived", parcel.number)
+
+    def close(self, nodes, step):
+        """Stops these nodes, in order."""
+        self.closed = True
+        for node in nodes:
+            step.send(node, "stop")
+
+    def take_back(self, message):
+        """A cell comes home. No other message is left to take."""
+        if message[0] != "credit":
+            raise Stray(message)
+        self.flying -= 1
+
+
+class Switch(Windowed):
     def __init__(self, routes, window, instances):
+        super().__init__(window)
         self.routes = routes + [(ANY, 0)]
         self.changes = []  # of (filter, instance before, instance after or AT_CONTROLLER)
-        self.window = window
         self.instances = instances
-        self.flying = 0  # packets under way
         self.waiting = 0  # commands without an answer
-        self.closed = False
 
     def target(self, flow):
         target = next(instance for flows, instance in self.routes if flows.matches(flow))
@@ -79,16 +108,12 @@ class Switch:
         return target
 
     def is_ready(self, item):
-        return {"packet": self.flying < self.window, "settle": self.waiting == 0}.get(item[0], True)
-
-    def has_ended(self):
-        return self.closed and self.flying == 0
+        return super().is_ready(item) and (item[0] != "settle" or self.waiting == 0)
 
     def take(self, port, message, step):
         match message:
             case "packet", parcel:
-                self.flying += 1
-                step.note("arrived", parcel.number)
+                self.let_in(parcel, step)
                 target = self.target(parcel.flow)
                 if target is AT_CONTROLLER:
                     step.send(CONTROLLER, "diverted", parcel)
@@ -112,13 +137,9 @@ class Switch:
             case "answered", _:
                 self.waiting -= 1
             case ("finish",):
-                self.closed = True
-                for instance in range(self.instances):
-                    step.send(node_of(instance), "stop")
-            case "credit", _:
-                self.flying -= 1
+                self.close(map(node_of, range(self.instances)), step)
             case _:
-                raise Stray(message)
+                self.take_back(message)
 
 
 # --- The instances ---

@@ -5,43 +5,30 @@ raises each packet of the filter as an event. The controller queues what is rais
 """
 from collections import deque
 
-from network import CONTROLLER, SWITCH, Instance, Stray, World, items_of, node_of
+from network import CONTROLLER, SWITCH, Instance, Stray, Windowed, World, items_of, node_of
 
 THE_SHARE = 1
 MOST_RECORDS = 1_000_000
 
 
-class StrongSwitch:
+class StrongSwitch(Windowed):
     def __init__(self, flows, window, members):
+        super().__init__(window)
         self.flows = flows
-        self.window = window
         self.members = members
-        self.flying = 0  # packets under way
-        self.closed = False
-
-    def is_ready(self, item):
-        return item[0] != "packet" or self.flying < self.window
-
-    def has_ended(self):
-        return self.closed and self.flying == 0
 
     def take(self, port, message, step):
         match message:
             case "packet", parcel:
-                self.flying += 1
-                step.note("arrived", parcel.number)
+                self.let_in(parcel, step)
                 member = (parcel.number - 1) % self.members if self.flows.matches(parcel.flow) else 0
                 step.send(node_of(member), "carry", parcel, "plain")
             case ("end",):
                 step.send(CONTROLLER, "end")
             case ("finish",):
-                self.closed = True
-                for member in range(self.members):
-                    step.send(node_of(member), "stop")
-            case "credit", _:
-                self.flying -= 1
+                self.close(map(node_of, range(self.members)), step)
             case _:
-                raise Stray(message)
+                self.take_back(message)
 
 
 class StrongController:

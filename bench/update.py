@@ -5,35 +5,26 @@ Nodes, choices, messages and notes are as in network.py, whose instances and wor
 """
 import network
 from functions import flow_of
-from network import CONTROLLER, SWITCH, Instance, Parcel, Stray, World, node_of
+from network import CONTROLLER, SWITCH, Instance, Parcel, Stray, Windowed, World, node_of
 
 SOURCE, DESTINATION = 0, 1
 OP = 1
 MOST_RECORDS = 1_000_000
 
 
-class TwoSwitch:
+class TwoSwitch(Windowed):
     """What goes to the source goes there alone, until the low rule is laid; then it is copied to the controller. From the high rule on it goes to the
     destination."""
 
     def __init__(self, flows, window):
+        super().__init__(window)
         self.flows = flows
-        self.window = window
         self.rule = None
-        self.flying = 0
-        self.closed = False
-
-    def is_ready(self, item):
-        return item[0] != "packet" or self.flying < self.window
-
-    def has_ended(self):
-        return self.closed and self.flying == 0
 
     def take(self, port, message, step):
         match message:
             case "packet", parcel:
-                self.flying += 1
-                step.note("arrived", parcel.number)
+                self.let_in(parcel, step)
                 rule = self.rule if self.flows.matches(parcel.flow) else None
                 step.send(node_of(DESTINATION if rule == "high" else SOURCE), "carry", parcel, "plain")
                 if rule == "low":
@@ -49,10 +40,8 @@ class TwoSwitch:
             case "finish", to:
                 self.closed = to == DESTINATION
                 step.send(node_of(to), "stop")
-            case "credit", _:
-                self.flying -= 1
             case _:
-                raise Stray(message)
+                self.take_back(message)
 
 
 class TwoInstance(Instance):
