@@ -6,9 +6,10 @@ Use: network_speed.py FOLDER PROGRAM FEW TENTH MOVED TWELVE [MOVES]
 The captures are generated packets (FEW), a tenth as many of them (TENTH), packets of a tenth as many flows, each of which comes
 again and again (MOVED), and the generated ones for 12 moves (TWELVE). The scripts go into FOLDER. Each run is made five times,
 in turn with the run that it is compared with, and once more for its memory. MOVES is the program of moves.rs: what moves take is
-then compared with what the same moves take there, as one writes them (plain) and tuned.
+then compared with what the same moves take there, as one writes them (plain) and tuned, by the middle of fifteen rounds of all five runs.
 """
 import os
+import statistics
 import struct
 import subprocess
 import sys
@@ -18,6 +19,7 @@ import measure
 
 FILE_HEADER, RECORD_HEADER, CAPTURED = 24, 16, 8
 SIXTEEN = ",".join("abcdefghijklmnop")
+ROUNDS = 15
 
 
 class Measure(NamedTuple):
@@ -124,10 +126,18 @@ def beside_plain_rust(moves, capture, period, count, taken, opennf):
     if moves is None:
         return
     words = [capture, str(period), str(count), taken]
-    runs = measured(*opennf, *([moves, mode, *words] for mode in ("none", "plain", "tuned")))
-    without, with_moves, none, plain, tuned = (it.spent for it in runs)
-    for name, other in ("plain", plain), ("tuned", tuned):
-        print(f"  the moves take {(with_moves - without) / max(other - none, 1e-6):.2f} times as long as in {name} Rust, of the processor's time")
+    commands = [*opennf, *([moves, mode, *words] for mode in ("none", "plain", "tuned"))]
+    rounds = [[measure.times_of(command, os.devnull)[1] for command in commands] for _ in range(ROUNDS)]
+    own = added(rounds, 0, 1)
+    for place, name in (3, "plain"), (4, "tuned"):
+        other = added(rounds, 2, place)
+        ratio = f"{own / other:.2f} times as long as" if other > 0 else "a time that can't be told from that"
+        print(f"  the moves take {ratio} in {name} Rust, of the processor's time: {own * 1000:.1f} ms beside {other * 1000:.1f}")
+
+
+def added(rounds, without, with_moves):
+    """What a command takes more of the processor than another: the middle of what it took more in each of some rounds."""
+    return statistics.median(spent[with_moves] - spent[without] for spent in rounds)
 
 
 def there_and_back(folder, program, moved, moves):
