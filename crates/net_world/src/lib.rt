@@ -9,10 +9,12 @@ pub mod config;
 pub mod ending;
 pub mod node;
 pub mod reading;
+pub mod running;
 pub mod starting;
 
 pub use config::Config;
 pub use ending::{discard, into_table};
 pub use node::Node;
 pub use reading::{is_complete, log_of, nodes_of};
+pub use running::{run_as_told, run_by_schedule};
 pub use starting::start;

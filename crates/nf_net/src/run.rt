@@ -12,8 +12,8 @@ ghost use Rattle.net_world.specs.Runs.{choices_of, EndsIn, StopsAt};
 ghost use Rattle.net_world.specs.Start.{started_with};
 ghost use Rattle.net_world.specs.Window.{AllHome};
 
-use actor_net::{Choices, ReplayFault, Schedule, ScheduleFault, World, replay, run_schedule};
-use net_world::{Config, Node, start};
+use actor_net::{Choices, ReplayFault, Schedule, ScheduleFault, World};
+use net_world::{Config, Node, run_as_told, run_by_schedule, start};
 use nf_function::Function;
 use nf_msgs::Msg;
 use std::alloc::Global;
@@ -39,7 +39,7 @@ pub fn simulate<F: Function>(
         → StopsAt {F = F.row.Denot} F.semantics (started_with alloc config.now items.items) schedule step }
 {
     let world = start::<F>(alloc, config, items)?;
-    run_schedule(alloc, world, schedule)
+    run_by_schedule(alloc, world, schedule)
 }
 
 /// Takes the choices in order, each by its node's row of the tables. What isn't handed back is dropped.
@@ -59,5 +59,5 @@ pub fn run_choices<F: Function>(
     ensures home { (alloc : AnAllocator) (config : AConfig) (items : List AMessage) → IsInput F.semantics.kind config items
         → world ≡ started_with alloc config items → IfOk result (λ reached. is_done node_ended reached ≡ true → AllHome config reached) }
 {
-    replay(world, choices)
+    run_as_told(world, choices)
 }

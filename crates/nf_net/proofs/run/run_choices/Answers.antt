@@ -4,20 +4,20 @@ use Rattle.nf_net.proofs.run.run_choices.Goals as goal
 
 pub returns-clause-promises : goal.returns-clause-promises
 returns-clause-promises g c alloc config items is start = replay_keeps g.row.F.Denot g.F.Function.semantics g.met.F.Function.laws alloc config items is
-    c.args.choices.now c.args.world c.replay.result start c.replay.ensures
+    c.args.choices.now c.args.world c.run_as_told.result start c.run_as_told.ensures
 
 pub returns-clause-verdicts : goal.returns-clause-verdicts
 returns-clause-verdicts g c alloc config items is start = replay_judges g.row.F.Denot g.F.Function.semantics g.met.F.Function.laws alloc config items is
-    c.args.choices.now c.args.world c.replay.result start c.replay.ensures
+    c.args.choices.now c.args.world c.run_as_told.result start c.run_as_told.ensures
 
 pub returns-clause-standbys : goal.returns-clause-standbys
 returns-clause-standbys g c alloc config items is start = replay_stands g.row.F.Denot g.F.Function.semantics g.met.F.Function.laws alloc config items is
-    c.args.choices.now c.args.world c.replay.result start c.replay.ensures
+    c.args.choices.now c.args.world c.run_as_told.result start c.run_as_told.ensures
 
 pub returns-clause-completed : goal.returns-clause-completed
 returns-clause-completed g c alloc config items is start = replay_completes g.row.F.Denot g.F.Function.semantics g.met.F.Function.laws alloc config items is
-    c.args.choices.now c.args.world c.replay.result start c.replay.ensures
+    c.args.choices.now c.args.world c.run_as_told.result start c.run_as_told.ensures
 
 pub returns-clause-home : goal.returns-clause-home
 returns-clause-home g c alloc config items is start = replay_homes g.row.F.Denot g.F.Function.semantics g.met.F.Function.laws alloc config items is
-    c.args.choices.now c.args.world c.replay.result start c.replay.ensures
+    c.args.choices.now c.args.world c.run_as_told.result start c.run_as_told.ensures

@@ -4,41 +4,41 @@ use Rattle.nf_net.proofs.run.simulate.Goals as goal
 
 pub returns-clause-choices : goal.returns-clause-choices
 returns-clause-choices g c = (ends g.row.F.Denot g.F.Function.semantics g.met.F.Function.laws c.args.alloc c.args.config.now c.args.items.items c.requires
-    c.args.schedule c.run_schedule.result c.in_ok-world.world c.in_ok-world.ensures c.run_schedule.ensures.choices c.run_schedule.ensures.world
-    c.run_schedule.ensures.run c.run_schedule.ensures.complete).choices
+    c.args.schedule c.run_by_schedule.result c.in_ok-world.world c.in_ok-world.ensures c.run_by_schedule.ensures.choices c.run_by_schedule.ensures.world
+    c.run_by_schedule.ensures.run c.run_by_schedule.ensures.complete).choices
 
 pub returns-clause-end : goal.returns-clause-end
 returns-clause-end g c = (ends g.row.F.Denot g.F.Function.semantics g.met.F.Function.laws c.args.alloc c.args.config.now c.args.items.items c.requires
-    c.args.schedule c.run_schedule.result c.in_ok-world.world c.in_ok-world.ensures c.run_schedule.ensures.choices c.run_schedule.ensures.world
-    c.run_schedule.ensures.run c.run_schedule.ensures.complete).end
+    c.args.schedule c.run_by_schedule.result c.in_ok-world.world c.in_ok-world.ensures c.run_by_schedule.ensures.choices c.run_by_schedule.ensures.world
+    c.run_by_schedule.ensures.run c.run_by_schedule.ensures.complete).end
 
 pub returns-clause-promises : goal.returns-clause-promises
 returns-clause-promises g c = (ends g.row.F.Denot g.F.Function.semantics g.met.F.Function.laws c.args.alloc c.args.config.now c.args.items.items
-    c.requires c.args.schedule c.run_schedule.result c.in_ok-world.world c.in_ok-world.ensures c.run_schedule.ensures.choices c.run_schedule.ensures.world
-    c.run_schedule.ensures.run c.run_schedule.ensures.complete).promises
+    c.requires c.args.schedule c.run_by_schedule.result c.in_ok-world.world c.in_ok-world.ensures c.run_by_schedule.ensures.choices c.run_by_schedule.ensures.world
+    c.run_by_schedule.ensures.run c.run_by_schedule.ensures.complete).promises
 
 pub returns-clause-completed : goal.returns-clause-completed
 returns-clause-completed g c = (ends g.row.F.Denot g.F.Function.semantics g.met.F.Function.laws c.args.alloc c.args.config.now c.args.items.items
-    c.requires c.args.schedule c.run_schedule.result c.in_ok-world.world c.in_ok-world.ensures c.run_schedule.ensures.choices c.run_schedule.ensures.world
-    c.run_schedule.ensures.run c.run_schedule.ensures.complete).completed
+    c.requires c.args.schedule c.run_by_schedule.result c.in_ok-world.world c.in_ok-world.ensures c.run_by_schedule.ensures.choices c.run_by_schedule.ensures.world
+    c.run_by_schedule.ensures.run c.run_by_schedule.ensures.complete).completed
 
 pub returns-clause-home : goal.returns-clause-home
 returns-clause-home g c = (ends g.row.F.Denot g.F.Function.semantics g.met.F.Function.laws c.args.alloc c.args.config.now c.args.items.items c.requires
-    c.args.schedule c.run_schedule.result c.in_ok-world.world c.in_ok-world.ensures c.run_schedule.ensures.choices c.run_schedule.ensures.world
-    c.run_schedule.ensures.run c.run_schedule.ensures.complete).home
+    c.args.schedule c.run_by_schedule.result c.in_ok-world.world c.in_ok-world.ensures c.run_by_schedule.ensures.choices c.run_by_schedule.ensures.world
+    c.run_by_schedule.ensures.run c.run_by_schedule.ensures.complete).home
 
 pub returns-clause-unfinished : goal.returns-clause-unfinished
 returns-clause-unfinished g c step is =
-    let short = c.run_schedule.ensures.unfinished step is in
+    let short = c.run_by_schedule.ensures.unfinished step is in
     stops g.row.F.Denot g.F.Function.semantics g.met.F.Function.laws c.args.alloc c.args.config.now c.args.items.items c.requires c.args.schedule
     c.in_ok-world.world c.in_ok-world.ensures step short.0 short.1
 
 pub returns-clause-verdicts : goal.returns-clause-verdicts
 returns-clause-verdicts g c = (ends g.row.F.Denot g.F.Function.semantics g.met.F.Function.laws c.args.alloc c.args.config.now c.args.items.items
-    c.requires c.args.schedule c.run_schedule.result c.in_ok-world.world c.in_ok-world.ensures c.run_schedule.ensures.choices c.run_schedule.ensures.world
-    c.run_schedule.ensures.run c.run_schedule.ensures.complete).verdicts
+    c.requires c.args.schedule c.run_by_schedule.result c.in_ok-world.world c.in_ok-world.ensures c.run_by_schedule.ensures.choices c.run_by_schedule.ensures.world
+    c.run_by_schedule.ensures.run c.run_by_schedule.ensures.complete).verdicts
 
 pub returns-clause-standbys : goal.returns-clause-standbys
 returns-clause-standbys g c = (ends g.row.F.Denot g.F.Function.semantics g.met.F.Function.laws c.args.alloc c.args.config.now c.args.items.items
-    c.requires c.args.schedule c.run_schedule.result c.in_ok-world.world c.in_ok-world.ensures c.run_schedule.ensures.choices c.run_schedule.ensures.world
-    c.run_schedule.ensures.run c.run_schedule.ensures.complete).standbys
+    c.requires c.args.schedule c.run_by_schedule.result c.in_ok-world.world c.in_ok-world.ensures c.run_by_schedule.ensures.choices c.run_by_schedule.ensures.world
+    c.run_by_schedule.ensures.run c.run_by_schedule.ensures.complete).standbys
