@@ -26,20 +26,23 @@ pub either : {R E A B C : Type 0} (r : Result R E) → (A → C) → (B → C) �
 either (Ok x) f g a b = f a
 either (Err x) f g a b = g b
 
+-- where the table has the role's tape
+pub record IsPlace {T : Type 0} (xs : List T) (at : ℕ) (role : Role) : Type 0 where
+  pub is : at ≡ role_place role
+  pub within : at < length xs
+
 module _ {T M : Type 0} (shows : T → M) (none : M) where
   abbrev shown_at : List T → ℕ → M
   shown_at xs k = unwrap_or (option_map shows (slice_get xs k)) none
 
   -- of a role whose tape is new
-  pub there : (xs : List T) (at : ℕ) (x : T) (role : Role) → at ≡ role_place role → at < length xs
-      → shown_at (slice_set xs at x) (role_place role) ≡ shows x
-  there xs at x role e h = ap (λ o. unwrap_or (option_map shows o) none) (get_there xs at (role_place role) x e h)
+  pub there : (xs : List T) (at : ℕ) (x : T) (role : Role) → IsPlace xs at role → shown_at (slice_set xs at x) (role_place role) ≡ shows x
+  there xs at x role place = ap (λ o. unwrap_or (option_map shows o) none) (get_there xs at (role_place role) x place.is place.within)
 
   -- of a role before
-  pub here : (d : T) (xs : List T) (at : ℕ) (role : Role) → at ≡ role_place role → at < length xs
-      → shown_at xs (role_place role) ≡ shows (slice_index_or xs at d)
-  here d xs at role e h = subst (λ k. shown_at xs k ≡ shows (slice_index_or xs at d)) e
-      (ap (λ o. unwrap_or (option_map shows o) none) (slice_get-get_or xs at d h))
+  pub here : (d : T) (xs : List T) (at : ℕ) (role : Role) → IsPlace xs at role → shown_at xs (role_place role) ≡ shows (slice_index_or xs at d)
+  here d xs at role place = subst (λ k. shown_at xs k ≡ shows (slice_index_or xs at d)) place.is
+      (ap (λ o. unwrap_or (option_map shows o) none) (slice_get-get_or xs at d place.within))
 
   -- of the other roles
   pub elsewhere : (xs : List T) (at : ℕ) (x : T) (role : Role) → at ≡ role_place role → (other : Role) → other ≢ role

@@ -1,6 +1,6 @@
 -- The role's tape is the new one.
-use Rattle.std.proofs.Common.{◌<◌, length, refl, arith, ap}
-use Rattle.nf_io.proofs.TapeTables.{either, there, here, elsewhere, unchanged}
+use Rattle.std.proofs.Common.{refl, arith, ap}
+use Rattle.nf_io.proofs.TapeTables.{IsPlace, either, there, here, elsewhere, unchanged}
 use Rattle.nf_io.specs.Meaning.{blank, bytes_of}
 use Rattle.nf_io.specs.Roles.{role_place}
 use Rattle.nf_io.specs.Planned.{meaning_of, plan_of, unplanned}
@@ -8,15 +8,13 @@ use Rattle.nf_io.proofs.memory.MemoryOutsideOutside.bind.Goals as goal
 
 pub returns-clause-ok : goal.returns-clause-ok
 returns-clause-ok c =
-    let place = c.place.ensures.place in
-    let within : c.place.result < length c.args.self.now.tapes = omega arith in
-    rw (there meaning_of blank, here meaning_of blank c.index-self-place.result c.args.self.now.tapes c.place.result) c.bind.ensures.ok
+    let place : IsPlace c.args.self.now.tapes c.place.result c.args.role = record { is = c.place.ensures.place; within = omega arith } in
+    rw (there meaning_of blank, here meaning_of blank c.index-self-place.result _ _ _ place) c.bind.ensures.ok
 
 pub returns-clause-err : goal.returns-clause-err
 returns-clause-err c =
-    let place = c.place.ensures.place in
-    let within : c.place.result < length c.args.self.now.tapes = omega arith in
-    rw (there meaning_of blank, here meaning_of blank c.index-self-place.result c.args.self.now.tapes c.place.result) c.bind.ensures.err
+    let place : IsPlace c.args.self.now.tapes c.place.result c.args.role = record { is = c.place.ensures.place; within = omega arith } in
+    rw (there meaning_of blank, here meaning_of blank c.index-self-place.result _ _ _ place) c.bind.ensures.err
 
 pub returns-clause-others : goal.returns-clause-others
 returns-clause-others c = elsewhere meaning_of blank _ _ _ _ c.place.ensures.place
