@@ -1,12 +1,10 @@
 //! The command `audit`: the run that a journal tells, again.
-ghost use Rattle.std.specs.Prelude.{◌≡◌, MatchResult, []};
 ghost use Rattle.command_words.specs.Requests.{asks_audit};
 ghost use Rattle.command_words.specs.RequestViews.{network_view};
 ghost use Rattle.opennf_calls.specs.Again.{AuditLaw};
 ghost use Rattle.call_files.specs.Files.{IsBound};
-ghost use Rattle.opennf_calls.specs.Outcome.{ForResults, RowOf};
-ghost use Rattle.call_files.specs.Phases.{OnlyRead, gives};
-ghost use Rattle.opennf_calls.specs.Ended.{Performs};
+ghost use Rattle.call_files.specs.Phases.{OnlyRead};
+ghost use Rattle.opennf_calls.specs.Ended.{Performs, Prepares};
 
 use call_files::{Made, Outcome, Status, read_choices, read_inputs, write_report};
 use command_words::Auditing;
@@ -29,10 +27,7 @@ pub fn audit<O: Outside>(alloc: Global, asked: &Auditing<'_>, outside: &mut O) -
 fn make<O: Outside>(alloc: Global, asked: &Auditing<'_>, outside: &mut O) -> Result<Made, Status>
     requires { IsBound (asks_audit (network_view asked.now.network)) (O.seen outside.old) }
     ensures only { OnlyRead (O.seen outside.old) (O.seen outside.new) }
-    ensures row { MatchResult result
-        (λ made. ForResults (asks_audit (network_view asked.now.network)) (O.seen outside.old) (O.seen outside.new)
-        (λ g. g ≡ gives (network_view asked.now.network) made))
-        (λ status. RowOf (asks_audit (network_view asked.now.network)) (O.seen outside.old) (O.seen outside.new) (record { status = status; choices = [] })) }
+    ensures row { Prepares (asks_audit (network_view asked.now.network)) (O.seen outside.old) (O.seen outside.new) result }
 {
     let network = &asked.network;
     let inputs = read_inputs(alloc, network, outside)?;

@@ -1,11 +1,9 @@
 //! The command `fail`: what is left where an instance fails in the middle of the run that a journal tells.
-ghost use Rattle.std.specs.Prelude.{◌≡◌, MatchResult, []};
 ghost use Rattle.command_words.specs.Requests.{asks_fail};
 ghost use Rattle.command_words.specs.RequestViews.{fail_view};
 ghost use Rattle.call_files.specs.Files.{IsBound};
-ghost use Rattle.opennf_calls.specs.Outcome.{ForResults, RowOf};
-ghost use Rattle.call_files.specs.Phases.{GivesReport, OnlyRead};
-ghost use Rattle.opennf_calls.specs.Ended.{Performs};
+ghost use Rattle.call_files.specs.Phases.{OnlyRead};
+ghost use Rattle.opennf_calls.specs.Ended.{Performs, Prepares};
 
 use call_files::{Made, Outcome, Status, read_choices, read_inputs, write_report};
 use command_words::FailRequest;
@@ -28,9 +26,7 @@ pub fn fail<O: Outside>(alloc: Global, asked: &FailRequest<'_>, outside: &mut O)
 fn make<O: Outside>(alloc: Global, asked: &FailRequest<'_>, outside: &mut O) -> Result<Made, Status>
     requires { IsBound (asks_fail (fail_view asked.now)) (O.seen outside.old) }
     ensures only { OnlyRead (O.seen outside.old) (O.seen outside.new) }
-    ensures row { MatchResult result
-        (λ made. ForResults (asks_fail (fail_view asked.now)) (O.seen outside.old) (O.seen outside.new) (GivesReport made.choices made.report))
-        (λ status. RowOf (asks_fail (fail_view asked.now)) (O.seen outside.old) (O.seen outside.new) (record { status = status; choices = [] })) }
+    ensures row { Prepares (asks_fail (fail_view asked.now)) (O.seen outside.old) (O.seen outside.new) result }
 {
     let network = &asked.network;
     let inputs = read_inputs(alloc, network, outside)?;

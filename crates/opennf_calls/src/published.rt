@@ -1,11 +1,9 @@
 //! The command `published`: a two-phase update by a schedule.
-ghost use Rattle.std.specs.Prelude.{◌≡◌, MatchResult, []};
 ghost use Rattle.command_words.specs.Requests.{asks_published};
 ghost use Rattle.command_words.specs.RequestViews.{published_view};
 ghost use Rattle.call_files.specs.Files.{IsBound};
-ghost use Rattle.opennf_calls.specs.Outcome.{ForResults, RowOf};
-ghost use Rattle.call_files.specs.Phases.{GivesReport, OnlyRead};
-ghost use Rattle.opennf_calls.specs.Ended.{Performs};
+ghost use Rattle.call_files.specs.Phases.{OnlyRead};
+ghost use Rattle.opennf_calls.specs.Ended.{Performs, Prepares};
 
 use actor_net::Schedule;
 use call_files::{Made, Outcome, Status, read_packets, write_report};
@@ -39,13 +37,7 @@ fn make<O: Outside>(
 ) -> Result<Made, Status>
     requires { IsBound (asks_published (published_view asked.now) schedule) (O.seen outside.old) }
     ensures only { OnlyRead (O.seen outside.old) (O.seen outside.new) }
-
-    // What is made is what the command gives for its capture, or the status has its row.
-    ensures row { MatchResult result
-        (λ made. ForResults (asks_published (published_view asked.now) schedule) (O.seen outside.old) (O.seen outside.new)
-        (GivesReport made.choices made.report))
-        (λ status. RowOf (asks_published (published_view asked.now) schedule) (O.seen outside.old) (O.seen outside.new)
-        (record { status = status; choices = [] })) }
+    ensures row { Prepares (asks_published (published_view asked.now) schedule) (O.seen outside.old) (O.seen outside.new) result }
 {
     let trace = read_packets(alloc, outside)?;
     let made = run_update(alloc, asked, trace, schedule)?;

@@ -1,11 +1,9 @@
 //! The command `run`: a run of the network by threads.
-ghost use Rattle.std.specs.Prelude.{◌≡◌, MatchResult, []};
 ghost use Rattle.command_words.specs.Requests.{asks_run};
 ghost use Rattle.command_words.specs.RequestViews.{network_view};
 ghost use Rattle.call_files.specs.Files.{IsBound};
-ghost use Rattle.opennf_calls.specs.Outcome.{ForResults, RowOf};
-ghost use Rattle.call_files.specs.Phases.{OnlyRead, gives};
-ghost use Rattle.opennf_calls.specs.Ended.{Performs};
+ghost use Rattle.call_files.specs.Phases.{OnlyRead};
+ghost use Rattle.opennf_calls.specs.Ended.{Performs, Prepares};
 
 use actor_threads::Gate;
 use call_files::{Made, Outcome, Status, read_inputs, write_results};
@@ -44,9 +42,7 @@ fn make<R: Threads + Wait + Sync, O: Outside, G: Gate>(
 ) -> Result<Made, Status>
     requires { IsBound (asks_run (network_view asked.now)) (O.seen outside.old) }
     ensures only { OnlyRead (O.seen outside.old) (O.seen outside.new) }
-    ensures row { MatchResult result
-        (λ made. ForResults (asks_run (network_view asked.now)) (O.seen outside.old) (O.seen outside.new) (λ g. g ≡ gives (network_view asked.now) made))
-        (λ status. RowOf (asks_run (network_view asked.now)) (O.seen outside.old) (O.seen outside.new) (record { status = status; choices = [] })) }
+    ensures row { Prepares (asks_run (network_view asked.now)) (O.seen outside.old) (O.seen outside.new) result }
 {
     let inputs = read_inputs(alloc, asked, outside)?;
     let made = run_threaded(rt, alloc, asked, inputs, gate)?;

@@ -1,11 +1,9 @@
 //! The command `sim`: a run of the network by a schedule.
-ghost use Rattle.std.specs.Prelude.{◌≡◌, MatchResult, [], ◌∷◌};
 ghost use Rattle.command_words.specs.Requests.{asks_sim};
 ghost use Rattle.command_words.specs.RequestViews.{network_view};
 ghost use Rattle.call_files.specs.Files.{IsBound};
-ghost use Rattle.opennf_calls.specs.Outcome.{ForResults, RowOf};
-ghost use Rattle.call_files.specs.Phases.{OnlyRead, gives};
-ghost use Rattle.opennf_calls.specs.Ended.{Performs};
+ghost use Rattle.call_files.specs.Phases.{OnlyRead};
+ghost use Rattle.opennf_calls.specs.Ended.{Performs, Prepares};
 
 use actor_net::Schedule;
 use call_files::{Made, Outcome, Status, read_inputs, write_results};
@@ -40,12 +38,7 @@ fn make<O: Outside>(
 ) -> Result<Made, Status>
     requires { IsBound (asks_sim (network_view asked.now) schedule) (O.seen outside.old) }
     ensures only { OnlyRead (O.seen outside.old) (O.seen outside.new) }
-
-    // What is made is what the command gives for its inputs, or the status has its row.
-    ensures row { MatchResult result
-        (λ made. ForResults (asks_sim (network_view asked.now) schedule) (O.seen outside.old) (O.seen outside.new)
-        (λ g. g ≡ gives (network_view asked.now) made))
-        (λ status. RowOf (asks_sim (network_view asked.now) schedule) (O.seen outside.old) (O.seen outside.new) (record { status = status; choices = [] })) }
+    ensures row { Prepares (asks_sim (network_view asked.now) schedule) (O.seen outside.old) (O.seen outside.new) result }
 {
     let inputs = read_inputs(alloc, asked, outside)?;
     let made = run_scheduled(alloc, asked, inputs, schedule)?;
