@@ -4,12 +4,13 @@ use Rattle.std.proofs.lemmas.Bool.{and_parts}
 use Rattle.nf_io.specs.declared.outside.Role.{Role}
 use Rattle.nf_io.specs.declared.outside.Role.TheVariants.{Trace, Script}
 use Rattle.nf_io.specs.Meaning.{Meaning}
+use Rattle.actor_net.specs.declared.schedule.Schedule.{Schedule}
 use Rattle.trace_reader.specs.declared.trace.Trace.{Trace as Captured}
 use Rattle.trace_reader.specs.declared.fault.TraceFault.{TraceFault}
 use Rattle.trace_reader.specs.declared.fault.TraceFault.TheVariants as fault
 use Rattle.trace_reader.specs.Answers.{AnswersTrace, HasReadCause}
 use Rattle.trace_reader.specs.Records.{capture_of}
-use Rattle.command_words.specs.Requests.{Asked}
+use Rattle.command_words.specs.Requests.{Asked, PublishedAsked, StrongAsked, asks_published, asks_strong}
 use Rattle.call_files.specs.declared.status.Status.{Status}
 use Rattle.call_files.specs.declared.results.Made.{Made}
 use Rattle.call_files.specs.Command.{file_for, is_input, is_read_before, trace_file}
@@ -32,6 +33,14 @@ pub record ReadsCapture (asked : Asked) : Type 0 where
   pub named : IsTrue (is_input asked Trace)
   pub refusal : (bytes : Role → List ℕ) → refusal_of asked bytes ≡ trace_refusal (capture_of (bytes Trace))
   pub earlier : (bytes : Role → List ℕ) → earlier_refusal asked Trace bytes ≡ None
+
+pub update_reads : (p : PublishedAsked) (schedule : Schedule) → ReadsCapture (asks_published p schedule)
+update_reads p schedule =
+    record { one = one_capture (asks_published p schedule) p.trace (λ role. refl); named = refl; refusal = λ bytes. refl; earlier = λ bytes. refl }
+
+pub sharing_reads : (s : StrongAsked) (schedule : Schedule) → ReadsCapture (asks_strong s schedule)
+sharing_reads s schedule =
+    record { one = one_capture (asks_strong s schedule) s.trace (λ role. refl); named = refl; refusal = λ bytes. refl; earlier = λ bytes. refl }
 
 -- what reading the capture answers
 abbrev pub AnswersCapture : (old new : Role → Meaning) → Result Captured TraceFault → Type 0

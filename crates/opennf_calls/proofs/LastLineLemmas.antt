@@ -18,7 +18,7 @@ use Rattle.call_files.specs.Phases.{SameContents, SameNames}
 use Rattle.call_files.specs.Writing.{Written, Wrote, written}
 use Rattle.call_files.proofs.BoundFiles.{same_named}
 use Rattle.call_files.proofs.RoleLemmas.{at_each}
-use Rattle.opennf_calls.proofs.RowLemmas.{not_errors, not_last}
+use Rattle.opennf_calls.proofs.RowLemmas.{later_results, not_errors, not_last}
 
 -- the states before and after a command, the state before its files were bound, and the state after the last line
 pub record Around (before old mid new : Role → Meaning) : Type 0 where
@@ -60,14 +60,8 @@ module _ (before old mid new : Role → Meaning) (around : Around before old mid
   with_results : (asked : Asked) (P Q : RunResults → Type 0) → ((made : RunResults) → P made → Q made) → ForResults asked old mid P
       → ForResults asked before new Q
   with_results asked P Q weaken was bytes told =
-      let found = was bytes (has_input asked bytes told) in
-      record {
-        read = λ role input. ap (λ m. m.left) (around.others role (not_errors asked role input)) ∙ found.read role input;
-        sound = found.sound;
-        made = found.made;
-        are = found.are;
-        wrote = weaken found.made found.wrote;
-      }
+      later_results asked bytes mid new P Q (λ role input. around.others role (not_errors asked role input)) weaken
+      (was bytes (has_input asked bytes told))
 
   done : (asked : Asked) (choices : List Choice) → IsDone asked old mid choices → IsDone asked before new choices
   done asked choices row = record {

@@ -11,7 +11,5 @@ pub mod LastLineLemmas
 pub mod MakingLemmas
 pub mod RowLemmas
 pub mod RunRows
-pub mod StrongRows
 pub mod TwoResults
-pub mod UpdateRows
 pub mod WrittenRuns

@@ -1,5 +1,5 @@
 -- What a command that makes a capture did, from what the making answered.
-use Rattle.std.proofs.Common.{◌≡◌, ◌≤◌, ℕ, List, [], Err, refl, ◌⊎◌, inl, inr, IsTrue}
+use Rattle.std.proofs.Common.{◌≡◌, ◌≤◌, ℕ, List, [], Err, refl, subst, ◌⊎◌, inl, inr, IsTrue}
 use Rattle.nf_io.specs.declared.outside.Role.{Role}
 use Rattle.nf_io.specs.declared.outside.Role.TheVariants.{Trace, Report, TraceOut, Errors}
 use Rattle.nf_io.specs.Meaning.{Meaning, Rose, OthersStay}
@@ -8,6 +8,7 @@ use Rattle.trace_reader.specs.Making.{Makes}
 use Rattle.trace_reader.specs.declared.make.MakeFault.{MakeFault}
 use Rattle.trace_reader.specs.declared.make.MakeFault.TheVariants.{Write, NoMemory}
 use Rattle.command_words.specs.Requests.{GenAsked, asks_gen}
+use Rattle.call_files.specs.declared.status.Status.TheVariants.{Ok as Done, WriteFault}
 use Rattle.call_files.specs.Command.{is_input, is_result}
 use Rattle.call_files.specs.Scenarios.{RunResults}
 use Rattle.opennf_calls.specs.Outcome.{ForResults, gen_line}
@@ -15,8 +16,9 @@ use Rattle.call_files.specs.Files.{IsBound}
 use Rattle.call_files.specs.Phases.{OnlyRead}
 use Rattle.opennf_calls.specs.Ended.{Performs}
 use Rattle.call_files.specs.Status.{making_status}
+use Rattle.call_files.specs.Writing.{Wrote, all_of, front_of}
 use Rattle.call_files.proofs.RoleLemmas.{at_each}
-use Rattle.opennf_calls.proofs.TwoResults.{GivesBoth, WritesFirst, file_failed}
+use Rattle.opennf_calls.proofs.TwoResults.{GivesBoth, WritesFirst, both_written, file_failed, second_failed}
 
 results_of : (g : GenAsked) (other : Role) → IsTrue (is_result (asks_gen g) other) → (other ≡ TraceOut) ⊎ (other ≡ Report)
 results_of g TraceOut result = inl refl
@@ -51,6 +53,19 @@ gen_texts g old bytes told = record {
 -- nothing is read
 pub none_read : (old : Role → Meaning) → OnlyRead old old
 none_read old = record { written = λ role. refl; names = λ role. refl; others = λ role unread. refl }
+
+-- the capture was written, and then the line, whole or in part
+module _ (g : GenAsked) (old mid new : Role → Meaning) (bound : IsBound (asks_gen g) old)
+    (file : Wrote TraceOut old mid (all_of (capture g.number g.packets g.hosts))) (line : List ℕ) (is : line ≡ gen_line g) where
+  pub gen_written : Wrote Report mid new (all_of line) → Performs (asks_gen g) old new (record { status = Done; choices = [] })
+  gen_written wrote =
+      both_written (asks_gen g) TraceOut (gen_writes g) old old (none_read old) bound (gen_made g) (gen_texts g old) mid new file
+      (subst (λ (text : List ℕ). Wrote Report mid new (all_of text)) is wrote)
+
+  pub line_failed : Wrote Report mid new (front_of line) → Performs (asks_gen g) old new (record { status = WriteFault Report; choices = [] })
+  line_failed wrote =
+      second_failed (asks_gen g) TraceOut (gen_writes g) old old (none_read old) bound (gen_made g) (gen_texts g old) mid new file
+      (subst (λ (text : List ℕ). Wrote Report mid new (front_of text)) is wrote)
 
 -- a role was written, and nothing but what was written and its count of faults changed
 pub record WrittenAlone (role : Role) (old new : Role → Meaning) : Type 0 where

@@ -11,7 +11,7 @@ use Rattle.command_words.specs.Requests.{Asked, CheckAsked, asks_check}
 use Rattle.call_files.specs.declared.status.Status.{Status}
 use Rattle.call_files.specs.declared.status.Status.TheVariants.{Ok as Done, WriteFault}
 use Rattle.call_files.specs.Command.{file_for, is_input, is_read_before, is_result, comes_before}
-use Rattle.opennf_calls.specs.Outcome.{EarlierAreSound, HasEarlier, ForResults, IsReadFault, IsRefusedCommand, RowOf}
+use Rattle.opennf_calls.specs.Outcome.{EarlierAreSound, HasEarlier, HasResults, ForResults, IsReadFault, IsRefusedCommand, RowOf}
 use Rattle.call_files.specs.Files.{HasInput, IsBound, WroteNothing, WroteResultsAlone, Gained}
 use Rattle.call_files.specs.Refusals.{earlier_refusal, refusal_of}
 use Rattle.call_files.specs.Scenarios.{RunResults}
@@ -98,6 +98,18 @@ module _ (old new : Role → Meaning) (only : OnlyRead old new) where
       → Performs asked old new (record { status = status; choices = [] })
   ends asked status row = record { row = row; names = only.names; errors = only.others Errors refl }
 
+-- what a command gives, also after something was written to other roles than its inputs
+pub later_results : (asked : Asked) (bytes : Role → List ℕ) (mid new : Role → Meaning) (P Q : RunResults → Type 0)
+    → ((role : Role) → IsTrue (is_input asked role) → new role ≡ mid role) → ((made : RunResults) → P made → Q made)
+    → HasResults asked bytes mid P → HasResults asked bytes new Q
+later_results asked bytes mid new P Q stays says found = record {
+  read = λ role input. ap (λ m. m.left) (stays role input) ∙ found.read role input;
+  sound = found.sound;
+  made = found.made;
+  are = found.are;
+  wrote = says found.made found.wrote;
+}
+
 -- a command that read its inputs and then wrote the report, whole or in part
 module _ (asked : Asked) (old mid new : Role → Meaning) (read : OnlyRead old mid) (bound : IsBound asked old)
     (only : (other : Role) → IsTrue (is_result asked other) → other ≡ Report)
@@ -127,14 +139,7 @@ module _ (asked : Asked) (old mid new : Role → Meaning) (read : OnlyRead old m
     -- what the command gives, for what is said of the text that was written
     with_texts : (P : RunResults → Type 0) → ((g : RunResults) → GivesReport choices text g → P g) → ForResults asked old new P
     with_texts P says bytes told =
-        let found = made bytes told in
-        record {
-          read = λ other is. ap (λ m. m.left) (wrote.others other (not_report asked other is)) ∙ found.read other is;
-          sound = found.sound;
-          made = found.made;
-          are = found.are;
-          wrote = says found.made found.wrote;
-        }
+        later_results asked bytes mid new (GivesReport choices text) P (λ other is. wrote.others other (not_report asked other is)) says (made bytes told)
 
     performs : (status : Status) → RowOf asked old new (record { status = status; choices = choices })
         → Performs asked old new (record { status = status; choices = choices })

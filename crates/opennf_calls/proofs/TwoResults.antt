@@ -18,7 +18,7 @@ use Rattle.call_files.specs.Phases.{OnlyRead, SameNames}
 use Rattle.opennf_calls.specs.Ended.{Performs}
 use Rattle.call_files.specs.Writing.{Gains, Written, all_of, front_of, Wrote}
 use Rattle.call_files.proofs.RoleLemmas.{at_each, other_place}
-use Rattle.opennf_calls.proofs.RowLemmas.{not_last, not_report}
+use Rattle.opennf_calls.proofs.RowLemmas.{later_results, not_last, not_report}
 
 -- the command has a result at this role, which is written before the report, and no other
 pub record WritesFirst (asked : Asked) (role : Role) : Type 0 where
@@ -78,15 +78,7 @@ module _ (asked : Asked) (role : Role) (writes : WritesFirst asked role) where
     -- what was given, also after something was written to other roles than the inputs
     with_texts : (new : Role → Meaning) → ((other : Role) → IsTrue (is_input asked other) → new other ≡ mid other)
         → (P : RunResults → Type 0) → ((g : RunResults) → GivesBoth role want g → P g) → ForResults asked old new P
-    with_texts new stays P says bytes told =
-        let found = made bytes told in
-        record {
-          read = λ other is. ap (λ (m : Meaning). m.left) (stays other is) ∙ found.read other is;
-          sound = found.sound;
-          made = found.made;
-          are = found.are;
-          wrote = says found.made found.wrote;
-        }
+    with_texts new stays P says bytes told = later_results asked bytes mid new (GivesBoth role want) P stays says (made bytes told)
 
     -- the file was written in part
     pub file_failed : (new : Role → Meaning) → Wrote role mid new (front_of first)

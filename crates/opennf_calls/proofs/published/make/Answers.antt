@@ -1,9 +1,10 @@
 -- What is made is what the command gives for its capture, or the status has its row.
+use Rattle.std.proofs.Common.{refl}
 use Rattle.std.proofs.lemmas.Result.{err_from_is_err_and}
 use Rattle.command_words.specs.Requests.{asks_published}
 use Rattle.command_words.specs.RequestViews.{published_view}
-use Rattle.opennf_calls.proofs.CaptureRows.{capture_row}
-use Rattle.opennf_calls.proofs.UpdateRows.{update_reads, update_results}
+use Rattle.network_calls.specs.UpdateRuns.{scene_of}
+use Rattle.opennf_calls.proofs.CaptureRows.{capture_report, capture_row, update_reads}
 use Rattle.opennf_calls.proofs.published.make.Goals as goal
 
 pub returns-in_err-trace-clause-row : goal.returns-in_err-trace-clause-row
@@ -17,5 +18,11 @@ returns-in_err-trace-clause-row g c =
 
 pub returns-clause-row : goal.returns-clause-row
 returns-clause-row g c =
-    update_results c.args.asked.now c.args.schedule (g.O.Outside.seen c.args.outside.now) (g.O.Outside.seen c.read_packets.new.outside) c.requires
-    c.in_ok-trace.ensures.alone c.in_ok-trace.trace c.in_ok-trace.ensures.trace c.in_ok-made.made c.in_ok-made.ensures
+    let p = published_view c.args.asked.now in
+    capture_report (asks_published p c.args.schedule) (update_reads p c.args.schedule) (g.O.Outside.seen c.args.outside.now)
+    (g.O.Outside.seen c.read_packets.new.outside) c.requires c.in_ok-trace.ensures.alone c.in_ok-trace.trace c.in_ok-trace.ensures.trace c.in_ok-made.made
+    (λ bytes read. record {
+      scene = scene_of c.args.asked.now c.in_ok-trace.trace;
+      is_scene = record { read = read; inside = refl; outside = refl; filter = refl };
+      holds = c.in_ok-made.ensures;
+    })

@@ -4,7 +4,7 @@ use Rattle.nf_io.specs.declared.outside.Role.TheVariants.{Trace}
 use Rattle.command_words.specs.Requests.{asks_published}
 use Rattle.command_words.specs.RequestViews.{published_view}
 use Rattle.opennf_calls.proofs.RowLemmas.{report_alone}
-use Rattle.opennf_calls.proofs.UpdateRows.{update_reads}
+use Rattle.opennf_calls.proofs.CaptureRows.{update_reads}
 use Rattle.opennf_calls.proofs.WrittenRuns.{report_performs}
 use Rattle.opennf_calls.proofs.published.publish.Goals as goal
 

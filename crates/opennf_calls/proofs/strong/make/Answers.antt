@@ -1,9 +1,10 @@
 -- What is made is what the command gives for its capture, or the status has its row.
+use Rattle.std.proofs.Common.{refl}
 use Rattle.std.proofs.lemmas.Result.{err_from_is_err_and}
 use Rattle.command_words.specs.Requests.{asks_strong}
 use Rattle.command_words.specs.RequestViews.{strong_view}
-use Rattle.opennf_calls.proofs.CaptureRows.{capture_row}
-use Rattle.opennf_calls.proofs.StrongRows.{sharing_reads, sharing_results}
+use Rattle.network_calls.specs.StrongRuns.{sharing_scene}
+use Rattle.opennf_calls.proofs.CaptureRows.{capture_report, capture_row, sharing_reads}
 use Rattle.opennf_calls.proofs.strong.make.Goals as goal
 
 pub returns-in_err-trace-clause-row : goal.returns-in_err-trace-clause-row
@@ -17,5 +18,11 @@ returns-in_err-trace-clause-row g c =
 
 pub returns-clause-row : goal.returns-clause-row
 returns-clause-row g c =
-    sharing_results c.args.asked.now c.args.schedule (g.O.Outside.seen c.args.outside.now) (g.O.Outside.seen c.read_packets.new.outside) c.requires
-    c.in_ok-trace.ensures.alone c.in_ok-trace.trace c.in_ok-trace.ensures.trace c.in_ok-made.made c.in_ok-made.ensures
+    let s = strong_view c.args.asked.now in
+    capture_report (asks_strong s c.args.schedule) (sharing_reads s c.args.schedule) (g.O.Outside.seen c.args.outside.now)
+    (g.O.Outside.seen c.read_packets.new.outside) c.requires c.in_ok-trace.ensures.alone c.in_ok-trace.trace c.in_ok-trace.ensures.trace c.in_ok-made.made
+    (λ bytes read. record {
+      scene = sharing_scene c.args.asked.now c.in_ok-trace.trace;
+      is_scene = record { read = read; inside = refl; outside = refl; filter = refl };
+      holds = c.in_ok-made.ensures;
+    })

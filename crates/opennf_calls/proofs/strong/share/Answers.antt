@@ -4,7 +4,7 @@ use Rattle.nf_io.specs.declared.outside.Role.TheVariants.{Trace}
 use Rattle.command_words.specs.Requests.{asks_strong}
 use Rattle.command_words.specs.RequestViews.{strong_view}
 use Rattle.opennf_calls.proofs.RowLemmas.{report_alone}
-use Rattle.opennf_calls.proofs.StrongRows.{sharing_reads}
+use Rattle.opennf_calls.proofs.CaptureRows.{sharing_reads}
 use Rattle.opennf_calls.proofs.WrittenRuns.{report_performs}
 use Rattle.opennf_calls.proofs.strong.share.Goals as goal
 
