@@ -67,29 +67,11 @@ impl ForFunction for Failed<'_, '_> {
     where
         F::Record: Send,
     {
-        fail_network::<F>(self.alloc, self.asked, self.inputs, self.choices)
-    }
-}
-
-/// What is left where the instance fails, and its report.
-fn fail_network<F: Function>(
-    alloc: Global,
-    asked: &FailRequest<'_>,
-    inputs: Inputs,
-    choices: Choices,
-) -> Result<Made, Status>
-    requires kind { F.semantics.kind ≡ asked.now.network.kind }
-    requires sound { CanBegin (network_view asked.now.network) (scenario_of asked.now.network.site inputs) }
-    ensures { MatchResult result
-        (λ made. IsFailover (run_given F.row.Denot F.semantics (network_view asked.now.network) (scenario_of asked.now.network.site inputs))
-        (fail_view asked.now) choices (reports made))
-        (IsNoFailoverAs (run_given F.row.Denot F.semantics (network_view asked.now.network) (scenario_of asked.now.network.site inputs))
-        (fail_view asked.now) choices) }
-{
-    let mut choices = choices;
-    match fail_told::<F>(alloc, asked, inputs, &mut choices) {
-        Ok(report) => Ok(Made { choices, report }),
-        Err(fault) => Err(status_of(fault)),
+        let mut choices = self.choices;
+        match fail_told::<F>(self.alloc, self.asked, self.inputs, &mut choices) {
+            Ok(report) => Ok(Made { choices, report }),
+            Err(fault) => Err(status_of(fault)),
+        }
     }
 }
 

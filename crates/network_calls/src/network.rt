@@ -112,11 +112,30 @@ impl ForFunction for Scheduled<'_, '_> {
     ghost gives = { λ w R F f r. IfOk r (λ made.
         IsRunOf (run_given F f (network_view w.asked.now) (scenario_of w.asked.now.site w.inputs)) (Some w.schedule) (gives (network_view w.asked.now) made)) };
 
+    /// The schedule comes to the end of the run.
     fn call<F: Function + Send>(self) -> Result<Made, NoMemory>
     where
         F::Record: Send,
     {
-        schedule_network::<F>(self.alloc, self.asked, self.inputs, self.schedule)
+        let Scheduled {
+            alloc,
+            asked,
+            inputs,
+            schedule,
+        } = self;
+        let Opening {
+            config,
+            items,
+            head,
+        } = open(alloc, asked, inputs)?;
+        let ended = simulate::<F>(alloc, &config, items, schedule);
+        drop(config);
+        let (world, choices) = match ended {
+            Ok(ended) => ended,
+            Err(ScheduleFault::Unfinished { step: _step }) => unreachable!(),
+            Err(ScheduleFault::NoMemory) => return Err(NoMemory),
+        };
+        report_run(alloc, &head, world, choices, asked.summary)
     }
 }
 
@@ -143,35 +162,24 @@ impl ForFunction for Told<'_, '_> {
     where
         F::Record: Send,
     {
-        tell_network::<F>(self.alloc, self.asked, self.inputs, self.choices)
+        let Told {
+            alloc,
+            asked,
+            inputs,
+            choices,
+        } = self;
+        let Opening {
+            config,
+            items,
+            head,
+        } = open(alloc, asked, inputs)?;
+        let audited = audit::<F>(alloc, &config, items, &head, &choices, asked.summary);
+        drop(config);
+        match audited {
+            Ok(report) => Ok(Made { choices, report }),
+            Err(fault) => Err(status_of(fault)),
+        }
     }
-}
-
-/// Runs the network by a schedule, which comes to the end of the run.
-fn schedule_network<F: Function>(
-    alloc: Global,
-    asked: &NetworkRequest<'_>,
-    inputs: Inputs,
-    schedule: Schedule,
-) -> Result<Made, NoMemory>
-    requires kind { F.semantics.kind ≡ asked.now.kind }
-    requires sound { CanBegin (network_view asked.now) (scenario_of asked.now.site inputs) }
-    ensures { IfOk result (λ made. IsRunOf (run_given F.row.Denot F.semantics (network_view asked.now) (scenario_of asked.now.site inputs)) (Some schedule)
-        (gives (network_view asked.now) made)) }
-{
-    let Opening {
-        config,
-        items,
-        head,
-    } = open(alloc, asked, inputs)?;
-    let ended = simulate::<F>(alloc, &config, items, schedule);
-    drop(config);
-    let (world, choices) = match ended {
-        Ok(ended) => ended,
-        Err(ScheduleFault::Unfinished { step: _step }) => unreachable!(),
-        Err(ScheduleFault::NoMemory) => return Err(NoMemory),
-    };
-    report_run(alloc, &head, world, choices, asked.summary)
 }
 
 /// Runs the network by threads.
@@ -214,33 +222,6 @@ fn report_run<F: Function>(
     discard(world);
     let report = report?;
     Ok(Made { choices, report })
-}
-
-/// Runs the network by choices.
-fn tell_network<F: Function>(
-    alloc: Global,
-    asked: &NetworkRequest<'_>,
-    inputs: Inputs,
-    choices: Choices,
-) -> Result<Made, Status>
-    requires kind { F.semantics.kind ≡ asked.now.kind }
-    requires sound { CanBegin (network_view asked.now) (scenario_of asked.now.site inputs) }
-    ensures { MatchResult result
-        (λ made. IsRunOf (run_given F.row.Denot F.semantics (network_view asked.now) (scenario_of asked.now.site inputs)) None
-        (gives (network_view asked.now) made) × (made.choices ≡ choices))
-        (IsRefusedAs (run_given F.row.Denot F.semantics (network_view asked.now) (scenario_of asked.now.site inputs)) choices) }
-{
-    let Opening {
-        config,
-        items,
-        head,
-    } = open(alloc, asked, inputs)?;
-    let audited = audit::<F>(alloc, &config, items, &head, &choices, asked.summary);
-    drop(config);
-    match audited {
-        Ok(report) => Ok(Made { choices, report }),
-        Err(fault) => Err(status_of(fault)),
-    }
 }
 
 /// The status of choices that have no report, or don't lead to a failover.

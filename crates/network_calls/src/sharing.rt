@@ -61,44 +61,37 @@ impl ForFunction for Sharing<'_, '_> {
 
     ghost gives = { λ w R F f r. IfOk r (λ made. IsSharingOf F f (strong_view w.asked.now) (sharing_scene w.asked.now w.trace) w.schedule (reports made)) };
 
+    /// The schedule comes to the end of the run.
     fn call<F: Function + Send>(self) -> Result<Made, NoMemory>
     where
         F::Record: Send,
     {
-        share_network::<F>(self.alloc, self.asked, self.trace, self.schedule)
+        let Sharing {
+            alloc,
+            asked,
+            trace,
+            schedule,
+        } = self;
+        let head = head_of(asked, &trace)?;
+        let Trace { packets, .. } = trace;
+        let (site, window) = (asked.site, asked.window);
+        let members = member_count(asked);
+        let ended = simulate_strong::<F>(
+            alloc,
+            site,
+            window,
+            members,
+            asked.filter,
+            packets,
+            schedule,
+        );
+        let (world, choices) = match ended {
+            Ok(ended) => ended,
+            Err(ScheduleFault::Unfinished { step: _step }) => unreachable!(),
+            Err(ScheduleFault::NoMemory) => return Err(NoMemory),
+        };
+        report_sharing(alloc, &head, world, choices)
     }
-}
-
-/// Runs strong sharing by a schedule, which comes to the end of the run.
-fn share_network<F: Function>(
-    alloc: Global,
-    asked: &StrongRequest<'_>,
-    trace: Trace,
-    schedule: Schedule,
-) -> Result<Made, NoMemory>
-    requires kind { F.semantics.kind ≡ asked.now.kind }
-    requires sound { CanShare (strong_view asked.now) (sharing_scene asked.now trace) }
-    ensures { IfOk result (λ made. IsSharingOf F.row.Denot F.semantics (strong_view asked.now) (sharing_scene asked.now trace) schedule (reports made)) }
-{
-    let head = head_of(asked, &trace)?;
-    let Trace { packets, .. } = trace;
-    let (site, window) = (asked.site, asked.window);
-    let members = member_count(asked);
-    let ended = simulate_strong::<F>(
-        alloc,
-        site,
-        window,
-        members,
-        asked.filter,
-        packets,
-        schedule,
-    );
-    let (world, choices) = match ended {
-        Ok(ended) => ended,
-        Err(ScheduleFault::Unfinished { step: _step }) => unreachable!(),
-        Err(ScheduleFault::NoMemory) => return Err(NoMemory),
-    };
-    report_sharing(alloc, &head, world, choices)
 }
 
 /// What comes of a run that led to a world. The world is dropped.

@@ -62,53 +62,46 @@ impl ForFunction for Updating<'_, '_> {
 
     ghost gives = { λ w R F f r. IfOk r (λ made. IsUpdateOf F f (published_view w.asked.now) (scene_of w.asked.now w.trace) w.schedule (reports made)) };
 
+    /// The schedule comes to the end of the run.
     fn call<F: Function + Send>(self) -> Result<Made, NoMemory>
     where
         F::Record: Send,
     {
-        update_network::<F>(self.alloc, self.asked, self.trace, self.schedule)
+        let Updating {
+            alloc,
+            asked,
+            trace,
+            schedule,
+        } = self;
+        let Trace {
+            packets,
+            skipped,
+            cut,
+        } = trace;
+        let head = TwoHead {
+            kind: asked.kind,
+            window: asked.window,
+            packets: packets.items().len() as u32,
+            skipped,
+            cut,
+        };
+        let (site, window) = (asked.site, asked.window);
+        let ended = simulate_two::<F>(
+            alloc,
+            site,
+            window,
+            asked.filter,
+            asked.at,
+            packets,
+            schedule,
+        );
+        let (world, choices) = match ended {
+            Ok(ended) => ended,
+            Err(ScheduleFault::Unfinished { step: _step }) => unreachable!(),
+            Err(ScheduleFault::NoMemory) => return Err(NoMemory),
+        };
+        report_update(alloc, &head, world, choices)
     }
-}
-
-/// Runs an update by a schedule, which comes to the end of the run.
-fn update_network<F: Function>(
-    alloc: Global,
-    asked: &Publishing<'_>,
-    trace: Trace,
-    schedule: Schedule,
-) -> Result<Made, NoMemory>
-    requires kind { F.semantics.kind ≡ asked.now.kind }
-    requires sound { IsUpdateJob asked.now.kind (update_for (published_view asked.now) (scene_of asked.now trace)) }
-    ensures { IfOk result (λ made. IsUpdateOf F.row.Denot F.semantics (published_view asked.now) (scene_of asked.now trace) schedule (reports made)) }
-{
-    let Trace {
-        packets,
-        skipped,
-        cut,
-    } = trace;
-    let head = TwoHead {
-        kind: asked.kind,
-        window: asked.window,
-        packets: packets.items().len() as u32,
-        skipped,
-        cut,
-    };
-    let (site, window) = (asked.site, asked.window);
-    let ended = simulate_two::<F>(
-        alloc,
-        site,
-        window,
-        asked.filter,
-        asked.at,
-        packets,
-        schedule,
-    );
-    let (world, choices) = match ended {
-        Ok(ended) => ended,
-        Err(ScheduleFault::Unfinished { step: _step }) => unreachable!(),
-        Err(ScheduleFault::NoMemory) => return Err(NoMemory),
-    };
-    report_update(alloc, &head, world, choices)
 }
 
 /// What comes of a run that led to a world. The world is dropped.

@@ -13,34 +13,34 @@ use Rattle.call_files.specs.Phases.{reports}
 use Rattle.network_calls.specs.RunSteps.{made_with}
 use Rattle.network_calls.specs.StrongRuns.{IsSharingOf, sharing_for, sharing_scene}
 use Rattle.network_calls.proofs.CapturedJobs.{same_sharing}
-use Rattle.network_calls.proofs.sharing.share_network.Goals as goal
+use Rattle.network_calls.proofs.sharing.SharingForFunction.call.Goals as goal
 
 pub simulate_strong-ended-requires : goal.simulate_strong-ended-requires
 simulate_strong-ended-requires g c =
-    let s = strong_view c.args.asked.now in
-    let scene = sharing_scene c.args.asked.now c.args.trace in
+    let s = strong_view c.args.self.asked.now in
+    let scene = sharing_scene c.args.self.asked.now c.args.self.trace in
     subst (λ (j : StrongJob). IsStrongJob g.F.Function.semantics.kind j)
     (sym (same_sharing s scene c.member_count-members.result c.member_count-members.ensures))
-    (subst (λ (k : Kind). IsStrongJob k (sharing_for s scene)) (sym c.requires.kind) c.requires.sound.job)
+    (subst (λ (k : Kind). IsStrongJob k (sharing_for s scene)) (sym c.requires.0) c.requires.1.job)
 
 pub unreachable-requires : goal.unreachable-requires
 unreachable-requires g c =
     let more = c.simulate_strong-ended.ensures.unfinished c.in-Err-Unfinished._step (search rules) in
-    let few = c.requires.sound.few in
+    let few = c.requires.1.few in
     omega (arith, more, few)
 
 pub returns : goal.returns
 returns g c =
     let f = g.F.Function.semantics in
-    let alloc = c.args.alloc in
-    let s = strong_view c.args.asked.now in
-    let scene = sharing_scene c.args.asked.now c.args.trace in
+    let alloc = c.args.self.alloc in
+    let s = strong_view c.args.self.asked.now in
+    let scene = sharing_scene c.args.self.asked.now c.args.self.trace in
     let job = sharing_for s scene in
     let same = same_sharing s scene c.member_count-members.result c.member_count-members.ensures in
     let leads : LeadsTo f (strong_start alloc job) c.in-Ok.ended.1 c.in-Ok.ended.0 =
     subst (λ (j : StrongJob). LeadsTo f (strong_start alloc j) c.in-Ok.ended.1 c.in-Ok.ended.0) same c.in-Ok.ensures.leads in
     let is : IsStrongRun g.row.F.Denot f s.names job c.in-Ok.ended.0 = record {
-      is_job = subst (λ (k : Kind). IsStrongJob k job) (sym c.requires.kind) c.requires.sound.job;
+      is_job = subst (λ (k : Kind). IsStrongJob k job) (sym c.requires.0) c.requires.1.job;
       members = refl;
       alloc = alloc;
       choices = c.in-Ok.ended.1;
@@ -48,10 +48,10 @@ returns g c =
       complete = c.in-Ok.ensures.complete;
     } in
     let text = strong_text f c.in_ok-head.head c.in-Ok.ended.0 in
-    let of : IsSharingOf g.row.F.Denot f s scene c.args.schedule (reports (made_with c.in-Ok.ended.1 text)) = record {
+    let of : IsSharingOf g.row.F.Denot f s scene c.args.self.schedule (reports (made_with c.in-Ok.ended.1 text)) = record {
       alloc = alloc;
       world = c.in-Ok.ended.0;
-      scheduled = subst (λ (j : StrongJob). c.in-Ok.ended.1 ≡ choices_of {F = g.row.F.Denot} f (strong_start alloc j) c.args.schedule) same
+      scheduled = subst (λ (j : StrongJob). c.in-Ok.ended.1 ≡ choices_of {F = g.row.F.Denot} f (strong_start alloc j) c.args.self.schedule) same
           c.in-Ok.ensures.choices;
       leads = leads;
       complete = c.in-Ok.ensures.complete;
@@ -64,5 +64,5 @@ returns g c =
       headline = strong_law g.row.F.Denot f g.met.F.Function.laws s.names job c.in-Ok.ended.0 is c.in_ok-head.head c.in_ok-head.ensures.names;
     } in
     IfOk-weaker c.report_sharing.result (λ made. made ≡ made_with c.in-Ok.ended.1 text)
-    (λ made. IsSharingOf g.row.F.Denot f s scene c.args.schedule (reports made))
-    (λ made made_is. subst (λ m. IsSharingOf g.row.F.Denot f s scene c.args.schedule (reports m)) (sym made_is) of) c.report_sharing.ensures
+    (λ made. IsSharingOf g.row.F.Denot f s scene c.args.self.schedule (reports made))
+    (λ made made_is. subst (λ m. IsSharingOf g.row.F.Denot f s scene c.args.self.schedule (reports m)) (sym made_is) of) c.report_sharing.ensures

@@ -15,34 +15,34 @@ use Rattle.run_headline.proofs.others.TwoHeadlines.{published_law}
 use Rattle.call_files.specs.Phases.{reports}
 use Rattle.network_calls.specs.RunSteps.{made_with}
 use Rattle.network_calls.specs.UpdateRuns.{IsUpdateOf, scene_of, update_for, update_head}
-use Rattle.network_calls.proofs.update.update_network.Goals as goal
+use Rattle.network_calls.proofs.update.UpdatingForFunction.call.Goals as goal
 
 pub simulate_two-ended-requires : goal.simulate_two-ended-requires
 simulate_two-ended-requires g c =
-    subst (λ (k : Kind). IsUpdateJob k (update_for (published_view c.args.asked.now) (scene_of c.args.asked.now c.args.trace))) (sym c.requires.kind)
-    c.requires.sound
+    subst (λ (k : Kind). IsUpdateJob k (update_for (published_view c.args.self.asked.now) (scene_of c.args.self.asked.now c.args.self.trace))) (sym c.requires.0)
+    c.requires.1
 
 pub returns : goal.returns
 returns g c =
     let f = g.F.Function.semantics in
-    let p = published_view c.args.asked.now in
-    let trace = c.args.trace in
-    let job = update_for p (scene_of c.args.asked.now trace) in
+    let p = published_view c.args.self.asked.now in
+    let trace = c.args.self.trace in
+    let job = update_for p (scene_of c.args.self.asked.now trace) in
     let text = two_text f (update_head p trace) c.in-Ok.ended.0 in
     let same_text : two_text f (record { kind = p.kind; window = p.window; packets = length c.items.result.now; skipped = trace.skipped; cut = trace.cut })
     c.in-Ok.ended.0 ≡ text = ap (λ (l : List Packet). two_text f
     (record { kind = p.kind; window = p.window; packets = length l; skipped = trace.skipped; cut = trace.cut }) c.in-Ok.ended.0) c.items.ensures in
     let is : IsTwoRun g.row.F.Denot f job c.in-Ok.ended.0 = record {
-      is_job = subst (λ (k : Kind). IsUpdateJob k job) (sym c.requires.kind) c.requires.sound;
-      alloc = c.args.alloc;
+      is_job = subst (λ (k : Kind). IsUpdateJob k job) (sym c.requires.0) c.requires.1;
+      alloc = c.args.self.alloc;
       choices = c.in-Ok.ended.1;
-      is_run = subst (λ cs. IsRun node_ready (node_step f) cs (two_start {F = g.row.F.Denot} c.args.alloc job)) (sym c.in-Ok.ensures.choices)
-          (scheduled_is_run node_ready node_ended (node_step f) MOST_CHOICES c.args.schedule (two_start c.args.alloc job));
+      is_run = subst (λ cs. IsRun node_ready (node_step f) cs (two_start {F = g.row.F.Denot} c.args.self.alloc job)) (sym c.in-Ok.ensures.choices)
+          (scheduled_is_run node_ready node_ended (node_step f) MOST_CHOICES c.args.self.schedule (two_start c.args.self.alloc job));
       reached = c.in-Ok.ensures.world;
       complete = c.in-Ok.ensures.complete;
     } in
-    let of : IsUpdateOf g.row.F.Denot f p (scene_of c.args.asked.now trace) c.args.schedule (reports (made_with c.in-Ok.ended.1 text)) = record {
-      alloc = c.args.alloc;
+    let of : IsUpdateOf g.row.F.Denot f p (scene_of c.args.self.asked.now trace) c.args.self.schedule (reports (made_with c.in-Ok.ended.1 text)) = record {
+      alloc = c.args.self.alloc;
       world = c.in-Ok.ended.0;
       scheduled = c.in-Ok.ensures.choices;
       reached = c.in-Ok.ensures.world;
@@ -52,6 +52,6 @@ returns g c =
       headline = published_law g.row.F.Denot f g.met.F.Function.laws job c.in-Ok.ended.0 is (update_head p trace);
     } in
     IfOk-weaker c.report_update.result (λ made. made ≡ made_with c.in-Ok.ended.1 _)
-    (λ made. IsUpdateOf g.row.F.Denot f p (scene_of c.args.asked.now trace) c.args.schedule (reports made))
-    (λ made made_is. subst (λ m. IsUpdateOf g.row.F.Denot f p (scene_of c.args.asked.now trace) c.args.schedule (reports m))
+    (λ made. IsUpdateOf g.row.F.Denot f p (scene_of c.args.self.asked.now trace) c.args.self.schedule (reports made))
+    (λ made made_is. subst (λ m. IsUpdateOf g.row.F.Denot f p (scene_of c.args.self.asked.now trace) c.args.self.schedule (reports m))
     (sym (made_is ∙ ap (made_with c.in-Ok.ended.1) same_text)) of) c.report_update.ensures
