@@ -17,43 +17,17 @@ pub fn push_outs<F: Function>(alloc: Global, text: &mut Text, log: &[Note]) -> R
     ensures { OnOk result (text.new ≡ text.old ++ out_lines F.semantics log.now) }
 {
     let before = text.items().len();
-    let mut lines = CountedLines::open(alloc, b"out ")?;
-    let mut ends = OutputEnds::<F>::open(alloc)?;
-    let in_order = push_noted_outs::<F>(text, &mut lines, &mut ends, log)?;
-    lines.flush(text)?;
+    let lines = CountedLines::open(alloc, b"out ")?;
+    let ends = OutputEnds::<F>::open(alloc)?;
+    let mut outs = OutLines { lines, ends };
+    let in_order = outs.push_noted(text, log)?;
+    outs.lines.flush(text)?;
     if in_order {
         return Ok(());
     }
     cut_to(alloc, text, before);
-    push_sorted_outs::<F>(alloc, text, &mut lines, &mut ends, log)?;
-    lines.flush(text)
-}
-
-/// Puts the line of each packet's output after the text and the lines that are still to go there, in the order of the log, up to a packet
-/// whose number is less than that of one before it. Tells whether there was none.
-fn push_noted_outs<F: Function>(
-    text: &mut Text,
-    lines: &mut CountedLines,
-    ends: &mut OutputEnds<F>,
-    log: &[Note],
-) -> Result<bool, NoMemory>
-    requires { word_of lines.old ≡ codes "out " }
-    ensures in_order { IfOk result (λ all. all ≡ true
-        → text.new ++ pending lines.new ≡ (text.old ++ pending lines.old) ++ out_lines F.semantics log.now) }
-    ensures front { IfOk result (λ _. take (length (text.old ++ pending lines.old)) (text.new ++ pending lines.new) ≡ text.old ++ pending lines.old) }
-    ensures word { word_of lines.new ≡ word_of lines.old }
-{
-    let mut last = 0;
-    for note in log {
-        if let Note::Processed { number, output, .. } = note {
-            if *number < last {
-                return Ok(false);
-            }
-            last = *number;
-            push_out::<F>(text, lines, ends, *number, output)?;
-        }
-    }
-    Ok(true)
+    outs.push_sorted(alloc, text, log)?;
+    outs.lines.flush(text)
 }
 
 /// Cuts a text to its first bytes, without a copy.
@@ -66,23 +40,77 @@ fn cut_to(alloc: Global, text: &mut Text, len: usize)
     *text = Text::from_vec(bytes);
 }
 
-/// Puts the line of each packet's output after the text, by the packets' numbers, where the log has them in another order.
-#[cold]
-fn push_sorted_outs<F: Function>(
-    alloc: Global,
-    text: &mut Text,
-    lines: &mut CountedLines,
-    ends: &mut OutputEnds<F>,
-    log: &[Note],
-) -> Result<(), NoMemory>
-    requires { word_of lines.old ≡ codes "out " }
-    ensures { OnOk result (text.new ++ pending lines.new ≡ (text.old ++ pending lines.old) ++ out_lines F.semantics log.now) }
-{
-    let outputs = outputs_by_number(alloc, log)?;
-    for (number, output) in &outputs {
-        push_out::<F>(text, lines, ends, *number, output)?;
+/// The lines that are still to go to a text, and the ends of those before them.
+#[derive(Drop)]
+struct OutLines<F: Function> {
+    lines: CountedLines,
+    ends: OutputEnds<F>,
+    ghost word: { word_of lines ≡ codes "out " },
+}
+
+impl<F: Function> OutLines<F> {
+    /// Puts the line of each packet's output after the text and the lines that are still to go there, in the order of the log, up to a packet
+    /// whose number is less than that of one before it. Tells whether there was none.
+    fn push_noted(&mut self, text: &mut Text, log: &[Note]) -> Result<bool, NoMemory>
+        ensures in_order { IfOk result (λ all. all ≡ true
+            → text.new ++ pending self.new.lines ≡ (text.old ++ pending self.old.lines) ++ out_lines F.semantics log.now) }
+        ensures front { IfOk result (λ _.
+            take (length (text.old ++ pending self.old.lines)) (text.new ++ pending self.new.lines) ≡ text.old ++ pending self.old.lines) }
+    {
+        let mut last = 0;
+        for note in log {
+            if let Note::Processed { number, output, .. } = note {
+                if *number < last {
+                    return Ok(false);
+                }
+                last = *number;
+                self.push(text, *number, output)?;
+            }
+        }
+        Ok(true)
     }
-    Ok(())
+
+    /// Puts the line of each packet's output after the text, by the packets' numbers, where the log has them in another order.
+    #[cold]
+    fn push_sorted(&mut self, alloc: Global, text: &mut Text, log: &[Note]) -> Result<(), NoMemory>
+        ensures { OnOk result (text.new ++ pending self.new.lines ≡ (text.old ++ pending self.old.lines) ++ out_lines F.semantics log.now) }
+    {
+        let outputs = outputs_by_number(alloc, log)?;
+        for (number, output) in &outputs {
+            self.push(text, *number, output)?;
+        }
+        Ok(())
+    }
+
+    /// Puts an output's line after the text and the lines that are still to go there.
+    #[tactic(auto, unfolding(crate::specs::Lines::out_line))]
+    #[inline(always)]
+    fn push(&mut self, text: &mut Text, number: u32, output: &Output) -> Result<(), NoMemory>
+        ensures { OnOk result (text.new ++ pending self.new.lines
+            ≡ (text.old ++ pending self.old.lines) ++ out_line F.semantics (number, output.now)) }
+    {
+        match self.ends.kept(output) {
+            Some(end) => self.lines.push(text, u64::from(number), end),
+            None => self.push_other(text, number, output),
+        }
+    }
+
+    /// Puts the line of an output whose end isn't kept yet.
+    #[tactic(auto, unfolding(crate::specs::Lines::out_line))]
+    #[cold]
+    #[inline(never)]
+    fn push_other(&mut self, text: &mut Text, number: u32, output: &Output) -> Result<(), NoMemory>
+        ensures { OnOk result (text.new ++ pending self.new.lines
+            ≡ (text.old ++ pending self.old.lines) ++ out_line F.semantics (number, output.now)) }
+    {
+        match self.ends.make(output)? {
+            Some(end) => self.lines.push(text, u64::from(number), &end),
+            None => {
+                self.lines.flush(text)?;
+                push_long_out::<F>(text, number, output)
+            }
+        }
+    }
 }
 
 /// The packets' outputs by their numbers.
@@ -105,50 +133,6 @@ fn outputs(alloc: Global, log: &[Note]) -> Result<Vec<(u32, Output)>, NoMemory>
         }
     }
     Ok(found)
-}
-
-/// Puts an output's line after the text and the lines that are still to go there.
-#[tactic(auto, unfolding(crate::specs::Lines::out_line))]
-#[inline(always)]
-fn push_out<F: Function>(
-    text: &mut Text,
-    lines: &mut CountedLines,
-    ends: &mut OutputEnds<F>,
-    number: u32,
-    output: &Output,
-) -> Result<(), NoMemory>
-    requires { word_of lines.old ≡ codes "out " }
-    ensures text { OnOk result (text.new ++ pending lines.new ≡ (text.old ++ pending lines.old) ++ out_line F.semantics (number, output.now)) }
-    ensures word { word_of lines.new ≡ word_of lines.old }
-{
-    match ends.kept(output) {
-        Some(end) => lines.push(text, u64::from(number), end),
-        None => push_other_out::<F>(text, lines, ends, number, output),
-    }
-}
-
-/// Puts the line of an output whose end isn't kept yet.
-#[tactic(auto, unfolding(crate::specs::Lines::out_line))]
-#[cold]
-#[inline(never)]
-fn push_other_out<F: Function>(
-    text: &mut Text,
-    lines: &mut CountedLines,
-    ends: &mut OutputEnds<F>,
-    number: u32,
-    output: &Output,
-) -> Result<(), NoMemory>
-    requires { word_of lines.old ≡ codes "out " }
-    ensures text { OnOk result (text.new ++ pending lines.new ≡ (text.old ++ pending lines.old) ++ out_line F.semantics (number, output.now)) }
-    ensures word { word_of lines.new ≡ word_of lines.old }
-{
-    match ends.make(output)? {
-        Some(end) => lines.push(text, u64::from(number), &end),
-        None => {
-            lines.flush(text)?;
-            push_long_out::<F>(text, number, output)
-        }
-    }
 }
 
 /// Puts the line of an output whose text is longer than a block after a text that has all lines so far.
