@@ -117,25 +117,19 @@ impl ForFunction for Scheduled<'_, '_> {
     where
         F::Record: Send,
     {
-        let Scheduled {
-            alloc,
-            asked,
-            inputs,
-            schedule,
-        } = self;
         let Opening {
             config,
             items,
             head,
-        } = open(alloc, asked, inputs)?;
-        let ended = simulate::<F>(alloc, &config, items, schedule);
+        } = open(self.alloc, self.asked, self.inputs)?;
+        let ended = simulate::<F>(self.alloc, &config, items, self.schedule);
         drop(config);
         let (world, choices) = match ended {
             Ok(ended) => ended,
             Err(ScheduleFault::Unfinished { step: _step }) => unreachable!(),
             Err(ScheduleFault::NoMemory) => return Err(NoMemory),
         };
-        report_run(alloc, &head, world, choices, asked.summary)
+        report_run(self.alloc, &head, world, choices, self.asked.summary)
     }
 }
 

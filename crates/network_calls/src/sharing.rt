@@ -66,31 +66,25 @@ impl ForFunction for Sharing<'_, '_> {
     where
         F::Record: Send,
     {
-        let Sharing {
-            alloc,
-            asked,
-            trace,
-            schedule,
-        } = self;
-        let head = head_of(asked, &trace)?;
-        let Trace { packets, .. } = trace;
-        let (site, window) = (asked.site, asked.window);
-        let members = member_count(asked);
+        let head = head_of(self.asked, &self.trace)?;
+        let Trace { packets, .. } = self.trace;
+        let (site, window) = (self.asked.site, self.asked.window);
+        let members = member_count(self.asked);
         let ended = simulate_strong::<F>(
-            alloc,
+            self.alloc,
             site,
             window,
             members,
-            asked.filter,
+            self.asked.filter,
             packets,
-            schedule,
+            self.schedule,
         );
         let (world, choices) = match ended {
             Ok(ended) => ended,
             Err(ScheduleFault::Unfinished { step: _step }) => unreachable!(),
             Err(ScheduleFault::NoMemory) => return Err(NoMemory),
         };
-        report_sharing(alloc, &head, world, choices)
+        report_sharing(self.alloc, &head, world, choices)
     }
 }
 

@@ -67,40 +67,34 @@ impl ForFunction for Updating<'_, '_> {
     where
         F::Record: Send,
     {
-        let Updating {
-            alloc,
-            asked,
-            trace,
-            schedule,
-        } = self;
         let Trace {
             packets,
             skipped,
             cut,
-        } = trace;
+        } = self.trace;
         let head = TwoHead {
-            kind: asked.kind,
-            window: asked.window,
+            kind: self.asked.kind,
+            window: self.asked.window,
             packets: packets.items().len() as u32,
             skipped,
             cut,
         };
-        let (site, window) = (asked.site, asked.window);
+        let (site, window) = (self.asked.site, self.asked.window);
         let ended = simulate_two::<F>(
-            alloc,
+            self.alloc,
             site,
             window,
-            asked.filter,
-            asked.at,
+            self.asked.filter,
+            self.asked.at,
             packets,
-            schedule,
+            self.schedule,
         );
         let (world, choices) = match ended {
             Ok(ended) => ended,
             Err(ScheduleFault::Unfinished { step: _step }) => unreachable!(),
             Err(ScheduleFault::NoMemory) => return Err(NoMemory),
         };
-        report_update(alloc, &head, world, choices)
+        report_update(self.alloc, &head, world, choices)
     }
 }
 

@@ -1,30 +1,33 @@
 -- The function that the words name is the one that runs, by threads.
-use Rattle.std.proofs.Common.{None, sym, subst}
+use Rattle.std.proofs.Common.{◌≡◌, None, Result, sym, subst}
 use Rattle.std.specs.Prelude.{IfOk}
 use Rattle.nf_function.specs.declared.kind.Kind.{Kind}
+use Rattle.command_words.specs.Requests.{NetworkAsked}
 use Rattle.command_words.specs.RequestViews.{network_view}
 use Rattle.function_kinds.specs.Functions.{OfKind}
-use Rattle.network_calls.specs.NetworkRuns.{IsRunOf, run_given}
+use Rattle.network_calls.specs.NetworkRuns.{HasRun, IsRunOf, run_given}
+use Rattle.call_files.specs.Scenarios.{Scenario}
+use Rattle.call_files.specs.declared.results.Made.{Made}
 use Rattle.call_files.specs.Phases.{scenario_of, gives}
 use Rattle.network_calls.proofs.network.run_threaded.Goals as goal
 
+-- what is said for the function of one kind is said for that of the same kind
+of_kind : {E : Type 0} (s : NetworkAsked) (scenario : Scenario) (kind : Kind) (r : Result Made E) → s.kind ≡ kind
+    → IfOk r (λ made. OfKind kind (λ R F f. IsRunOf (run_given F f s scenario) None (gives s made))) → IfOk r (λ made. HasRun s scenario None (gives s made))
+of_kind s scenario kind r is =
+    subst (λ (k : Kind). IfOk r (λ made. OfKind k (λ R F f. IsRunOf (run_given F f s scenario) None (gives s made)))) (sym is)
+
 pub returns-in-Conntrack : goal.returns-in-Conntrack
 returns-in-Conntrack g c =
-    let s = network_view c.args.asked.now in
-    let scenario = scenario_of c.args.asked.now.site c.args.inputs in
-    subst (λ (kind : Kind). IfOk c.thread_network.result (λ made. OfKind kind (λ R F f. IsRunOf (run_given F f s scenario) None (gives s made))))
-    (sym c.in-Conntrack.is) c.thread_network.ensures
+    of_kind (network_view c.args.asked.now) (scenario_of c.args.asked.now.site c.args.inputs) _
+    c.thread_network.result c.in-Conntrack.is c.thread_network.ensures
 
 pub returns-in-Nat : goal.returns-in-Nat
 returns-in-Nat g c =
-    let s = network_view c.args.asked.now in
-    let scenario = scenario_of c.args.asked.now.site c.args.inputs in
-    subst (λ (kind : Kind). IfOk c.thread_network-in-Nat.result (λ made. OfKind kind (λ R F f. IsRunOf (run_given F f s scenario) None (gives s made))))
-    (sym c.in-Nat.is) c.thread_network-in-Nat.ensures
+    of_kind (network_view c.args.asked.now) (scenario_of c.args.asked.now.site c.args.inputs) _
+    c.thread_network-in-Nat.result c.in-Nat.is c.thread_network-in-Nat.ensures
 
 pub returns-in-Monitor : goal.returns-in-Monitor
 returns-in-Monitor g c =
-    let s = network_view c.args.asked.now in
-    let scenario = scenario_of c.args.asked.now.site c.args.inputs in
-    subst (λ (kind : Kind). IfOk c.thread_network-in-Monitor.result (λ made. OfKind kind (λ R F f. IsRunOf (run_given F f s scenario) None (gives s made))))
-    (sym c.in-Monitor.is) c.thread_network-in-Monitor.ensures
+    of_kind (network_view c.args.asked.now) (scenario_of c.args.asked.now.site c.args.inputs) _
+    c.thread_network-in-Monitor.result c.in-Monitor.is c.thread_network-in-Monitor.ensures
