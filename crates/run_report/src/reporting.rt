@@ -1,6 +1,6 @@
 //! The report of a world of a run: its head, the lines of packets, answers and records, and its tail.
 ghost use Rattle.std.specs.Prelude.{◌≡◌, ◌++◌, IfOk, OnOk};
-ghost use Rattle.run_report.specs.Lines.{head_lines, named_instances, packet_lines, record_lines, report_text, summary_lines, whole_lines};
+ghost use Rattle.run_report.specs.Lines.{head_lines, named_instances, packet_lines, record_lines, report_text, whole_lines};
 ghost use Rattle.report_lines.specs.Lines.{tail_lines};
 
 use crate::answers::push_answers;
@@ -33,7 +33,7 @@ pub fn report<F: Function>(
 }
 
 /// Puts all lines after a text.
-#[tactic(auto, unfolding(crate::specs::Lines::report_text))]
+#[tactic(auto, unfolding(crate::specs::Lines::report_text, crate::specs::Lines::summary_lines))]
 fn push_report<F: Function>(
     alloc: Global,
     text: &mut Text,
@@ -47,7 +47,8 @@ fn push_report<F: Function>(
 {
     push_head(text, head)?;
     if summary {
-        push_summary(alloc, text, head, world, found)?;
+        push_answers(alloc, text, log_of(world))?;
+        push_lives(text, found)?;
     } else {
         push_whole(alloc, text, head, world, found)?;
     }
@@ -108,20 +109,4 @@ fn push_records<F: Function>(
 {
     push_states(alloc, text, instances)?;
     push_standbys(alloc, text, instances)
-}
-
-/// Puts the lines of answers and of counts after a text.
-#[tactic(auto, unfolding(crate::specs::Lines::summary_lines))]
-fn push_summary<F: Function>(
-    alloc: Global,
-    text: &mut Text,
-    head: &Head,
-    world: &World<Node<F>>,
-    found: &[NamedInstance<'_, F>],
-) -> Result<(), NoMemory>
-    requires { found.now ≡ named_instances head.now.names world.now.nodes }
-    ensures { OnOk result (text.new ≡ text.old ++ summary_lines head.now world.now) }
-{
-    push_answers(alloc, text, log_of(world))?;
-    push_lives(text, found)
 }

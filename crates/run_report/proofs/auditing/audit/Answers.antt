@@ -1,4 +1,5 @@
 -- What every run keeps, and every complete one, of the run that was audited.
+use Rattle.std.proofs.Common.{Result, Ok, Err, IfOk}
 use Rattle.std.proofs.lemmas.Result.{IfOk-weaker}
 use Rattle.net_world.specs.Start.{started_with}
 use Rattle.nf_net.proofs.EveryRun.{every_run, every_end, every_home}
@@ -6,6 +7,11 @@ use Rattle.nf_net.proofs.JudgedRuns.{verdicts}
 use Rattle.nf_net.proofs.StandbyRuns.{standbys}
 use Rattle.run_report.proofs.AuditLemmas.{complete, short, text_is}
 use Rattle.run_report.proofs.auditing.audit.Goals as goal
+
+-- what holds of the run holds whatever comes of the audit
+of_any : {T E P : Type 0} (r : Result T E) → P → IfOk r (λ x. P)
+of_any (Ok x) p = p
+of_any (Err e) p = tt
 
 pub returns-clause-run : goal.returns-clause-run
 returns-clause-run g c =
@@ -19,21 +25,15 @@ returns-clause-text g c =
 
 pub returns-clause-promises : goal.returns-clause-promises
 returns-clause-promises g c input =
-    IfOk-weaker c.report_ended-text.result _ _
-    (λ t done. every_run g.row.F.Denot g.F.Function.semantics g.met.F.Function.laws c.args.alloc c.args.config.now c.args.items.items input c.args.choices.now
-    c.in_ok-world.ensures.leads.is_run) c.report_ended-text.ensures.complete
+    of_any c.report_ended-text.result (every_run _ _ g.met.F.Function.laws _ _ _ input _ c.in_ok-world.ensures.leads.is_run)
 
 pub returns-clause-verdicts : goal.returns-clause-verdicts
 returns-clause-verdicts g c input =
-    IfOk-weaker c.report_ended-text.result _ _
-    (λ t done. verdicts g.row.F.Denot g.F.Function.semantics g.met.F.Function.laws c.args.alloc c.args.config.now c.args.items.items input c.args.choices.now
-    c.in_ok-world.ensures.leads.is_run) c.report_ended-text.ensures.complete
+    of_any c.report_ended-text.result (verdicts _ _ g.met.F.Function.laws _ _ _ input _ c.in_ok-world.ensures.leads.is_run)
 
 pub returns-clause-standbys : goal.returns-clause-standbys
 returns-clause-standbys g c input =
-    IfOk-weaker c.report_ended-text.result _ _
-    (λ t done. standbys g.row.F.Denot g.F.Function.semantics g.met.F.Function.laws c.args.alloc c.args.config.now c.args.items.items input c.args.choices.now
-    c.in_ok-world.ensures.leads.is_run) c.report_ended-text.ensures.complete
+    of_any c.report_ended-text.result (standbys _ _ g.met.F.Function.laws _ _ _ input _ c.in_ok-world.ensures.leads.is_run)
 
 pub returns-clause-completed : goal.returns-clause-completed
 returns-clause-completed g c input =
