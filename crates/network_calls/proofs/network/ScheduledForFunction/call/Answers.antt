@@ -20,8 +20,8 @@ unreachable-requires g c =
     let opening = c.in_ok-config.field-0 in
     let is = c.in_ok-config.ensures in
     let input = subst (λ (k : Kind). IsInput k opening.config opening.items.items) (sym c.requires.0) is.is_input in
-    never_stops g.row.F.Denot g.F.Function.semantics g.met.F.Function.laws c.args.self.alloc opening.config opening.items.items input is.short c.args.self.schedule
-    c.in-Err-Unfinished._step (c.simulate-ended.ensures.unfinished c.in-Err-Unfinished._step (search rules))
+    never_stops g.row.F.Denot g.F.Function.semantics g.met.F.Function.laws c.args.self.alloc opening.config opening.items.items input is.short
+    c.args.self.schedule c.in-Err-Unfinished._step (c.simulate-ended.ensures.unfinished c.in-Err-Unfinished._step (search rules))
 
 pub returns : goal.returns
 returns g c =

@@ -15,8 +15,8 @@ returns-in-Err g c =
     let opening = c.in_ok-config.field-0 in
     let is = c.in_ok-config.ensures in
     rw c.status_of.ensures
-    (run_refused g.row.F.Denot g.F.Function.semantics (network_view c.args.self.asked.now) (scenario_of c.args.self.asked.now.site c.args.self.inputs) c.args.self.alloc
-    opening.config opening.items.items opening.head is.config is.items
+    (run_refused g.row.F.Denot g.F.Function.semantics (network_view c.args.self.asked.now) (scenario_of c.args.self.asked.now.site c.args.self.inputs)
+    c.args.self.alloc opening.config opening.items.items opening.head is.config is.items
     c.args.self.choices c.in-Err.fault (λ step same. c.in-Err.ensures.not_a_run step (ap Err same)))
 
 pub returns-in-Ok : goal.returns-in-Ok
@@ -26,8 +26,8 @@ returns-in-Ok g c =
     let report = c.in-Ok.ensures in
     let start = started_with {F = g.row.F.Denot} {R = g.row.F-Record.Denot} c.args.self.alloc opening.config opening.items.items in
     let input = subst (λ (k : Kind). IsInput k opening.config opening.items.items) (sym c.requires.0) is.is_input in (
-      run_of g.row.F.Denot g.F.Function.semantics (network_view c.args.self.asked.now) (scenario_of c.args.self.asked.now.site c.args.self.inputs) c.args.self.alloc
-          opening.config opening.items.items opening.head is.config is.items
+      run_of g.row.F.Denot g.F.Function.semantics (network_view c.args.self.asked.now) (scenario_of c.args.self.asked.now.site c.args.self.inputs)
+          c.args.self.alloc opening.config opening.items.items opening.head is.config is.items
           g.met.F.Function.laws None (record { choices = c.args.self.choices; report = c.in-Ok.report })
           (world_after g.F.Function.semantics start c.args.self.choices)
           (record {

@@ -19,8 +19,8 @@ use Rattle.network_calls.proofs.update.UpdatingForFunction.call.Goals as goal
 
 pub simulate_two-ended-requires : goal.simulate_two-ended-requires
 simulate_two-ended-requires g c =
-    subst (λ (k : Kind). IsUpdateJob k (update_for (published_view c.args.self.asked.now) (scene_of c.args.self.asked.now c.args.self.trace))) (sym c.requires.0)
-    c.requires.1
+    subst (λ (k : Kind). IsUpdateJob k (update_for (published_view c.args.self.asked.now) (scene_of c.args.self.asked.now c.args.self.trace)))
+    (sym c.requires.0) c.requires.1
 
 pub returns : goal.returns
 returns g c =
