@@ -8,7 +8,7 @@ use Rattle.trace_reader.specs.Making.{Makes}
 use Rattle.trace_reader.specs.declared.make.MakeFault.{MakeFault}
 use Rattle.trace_reader.specs.declared.make.MakeFault.TheVariants.{Write, NoMemory}
 use Rattle.command_words.specs.Requests.{GenAsked, asks_gen}
-use Rattle.call_files.specs.declared.status.Status.TheVariants.{Ok as Done, WriteFault}
+use Rattle.call_files.specs.declared.outcome.Outcome.{Outcome}
 use Rattle.call_files.specs.Command.{is_input, is_result}
 use Rattle.call_files.specs.Scenarios.{RunResults}
 use Rattle.opennf_calls.specs.Outcome.{ForResults, gen_line}
@@ -16,8 +16,9 @@ use Rattle.call_files.specs.Files.{IsBound}
 use Rattle.call_files.specs.Phases.{OnlyRead}
 use Rattle.opennf_calls.specs.Ended.{Performs}
 use Rattle.call_files.specs.Status.{making_status}
-use Rattle.call_files.specs.Writing.{Wrote, all_of, front_of}
+use Rattle.call_files.specs.Writing.{Wrote, WroteReport, all_of}
 use Rattle.call_files.proofs.RoleLemmas.{at_each}
+use Rattle.opennf_calls.proofs.WrittenRuns.{by_part}
 use Rattle.opennf_calls.proofs.TwoResults.{GivesBoth, WritesFirst, both_written, file_failed, second_failed}
 
 results_of : (g : GenAsked) (other : Role) → IsTrue (is_result (asks_gen g) other) → (other ≡ TraceOut) ⊎ (other ≡ Report)
@@ -55,17 +56,14 @@ pub none_read : (old : Role → Meaning) → OnlyRead old old
 none_read old = record { written = λ role. refl; names = λ role. refl; others = λ role unread. refl }
 
 -- the capture was written, and then the line, whole or in part
-module _ (g : GenAsked) (old mid new : Role → Meaning) (bound : IsBound (asks_gen g) old)
-    (file : Wrote TraceOut old mid (all_of (capture g.number g.packets g.hosts))) (line : List ℕ) (is : line ≡ gen_line g) where
-  pub gen_written : Wrote Report mid new (all_of line) → Performs (asks_gen g) old new (record { status = Done; choices = [] })
-  gen_written wrote =
-      both_written (asks_gen g) TraceOut (gen_writes g) old old (none_read old) bound (gen_made g) (gen_texts g old) mid new file
-      (subst (λ (text : List ℕ). Wrote Report mid new (all_of text)) is wrote)
-
-  pub line_failed : Wrote Report mid new (front_of line) → Performs (asks_gen g) old new (record { status = WriteFault Report; choices = [] })
-  line_failed wrote =
-      second_failed (asks_gen g) TraceOut (gen_writes g) old old (none_read old) bound (gen_made g) (gen_texts g old) mid new file
-      (subst (λ (text : List ℕ). Wrote Report mid new (front_of text)) is wrote)
+pub gen_ended : (g : GenAsked) (old mid new : Role → Meaning) → IsBound (asks_gen g) old
+    → Wrote TraceOut old mid (all_of (capture g.number g.packets g.hosts)) → (line : List ℕ) → line ≡ gen_line g → (outcome : Outcome)
+    → WroteReport (record { choices = []; report = line }) mid new outcome → Performs (asks_gen g) old new outcome
+gen_ended g old mid new bound file line is outcome wrote =
+    by_part (asks_gen g) old mid new (record { choices = []; report = gen_line g }) outcome
+    (both_written (asks_gen g) TraceOut (gen_writes g) old old (none_read old) bound (gen_made g) (gen_texts g old) mid new file)
+    (second_failed (asks_gen g) TraceOut (gen_writes g) old old (none_read old) bound (gen_made g) (gen_texts g old) mid new file)
+    (subst (λ (text : List ℕ). WroteReport (record { choices = []; report = text }) mid new outcome) is wrote)
 
 -- a role was written, and nothing but what was written and its count of faults changed
 pub record WrittenAlone (role : Role) (old new : Role → Meaning) : Type 0 where

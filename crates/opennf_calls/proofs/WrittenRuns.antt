@@ -7,7 +7,7 @@ use Rattle.actor_net.specs.declared.choice.Choice.{Choice}
 use Rattle.actor_net.specs.declared.schedule.Schedule.{Schedule}
 use Rattle.command_words.specs.Requests.{Asked, FailAsked, NetworkAsked, asks_sim, asks_run, asks_audit, asks_fail}
 use Rattle.call_files.specs.declared.status.Status.{Status}
-use Rattle.call_files.specs.declared.status.Status.TheVariants.{WriteFault, NoMemory}
+use Rattle.call_files.specs.declared.status.Status.TheVariants.{Ok as Done, WriteFault, NoMemory}
 use Rattle.call_files.specs.declared.outcome.Outcome.{Outcome}
 use Rattle.call_files.specs.declared.results.Made.{Made}
 use Rattle.call_files.specs.Command.{file_for, is_result, with_journal}
@@ -33,21 +33,28 @@ same_end asked old new made outcome status ended chose performs =
         subst (λ (st : Status). o ≡ record { status = st; choices = made.choices }) is
         (subst (λ (cs : List Choice). o ≡ record { status = o.status; choices = cs }) chosen refl)
 
+-- a report was written, whole or in part
+pub by_part : (asked : Asked) (old mid new : Role → Meaning) (made : Made) (outcome : Outcome)
+    → (Wrote Report mid new (all_of made.report) → Performs asked old new (record { status = Done; choices = made.choices }))
+    → (Wrote Report mid new (front_of made.report) → Performs asked old new (record { status = WriteFault Report; choices = made.choices }))
+    → WroteReport made mid new outcome → Performs asked old new outcome
+by_part asked old mid new made outcome whole front wrote =
+    same_end asked old new made outcome (report_end wrote.part) wrote.status wrote.choices (by wrote.part wrote.is wrote.wrote)
+  where
+    by : (part : Written) → is_part part made.report → Wrote Report mid new part
+        → Performs asked old new (record { status = report_end part; choices = made.choices })
+    by (all_of text) is gained = whole (subst (λ (t : List ℕ). Wrote Report mid new (all_of t)) is gained)
+    by (front_of text) is gained = front (subst (λ (t : List ℕ). Wrote Report mid new (front_of t)) is gained)
+
 -- a command that made a report
 module _ (asked : Asked) (old mid : Role → Meaning) (read : OnlyRead old mid) (bound : IsBound asked old)
     (made : Made) (results : ForResults asked old mid (GivesReport made.choices made.report)) where
   -- the report was written
   pub report_performs : ((other : Role) → IsTrue (is_result asked other) → other ≡ Report) → (new : Role → Meaning) (outcome : Outcome)
       → WroteReport made mid new outcome → Performs asked old new outcome
-  report_performs only new outcome wrote =
-      same_end asked old new made outcome (report_end wrote.part) wrote.status wrote.choices (by wrote.part wrote.is wrote.wrote)
-    where
-      by : (part : Written) → is_part part made.report → Wrote Report mid new part
-          → Performs asked old new (record { status = report_end part; choices = made.choices })
-      by (all_of text) is wrote =
-          report_written asked old mid new read bound only made.choices made.report results (subst (λ (t : List ℕ). Wrote Report mid new (all_of t)) is wrote)
-      by (front_of text) is wrote =
-          report_failed asked old mid new read bound only made.choices made.report results (subst (λ (t : List ℕ). Wrote Report mid new (front_of t)) is wrote)
+  report_performs only new outcome =
+      by_part asked old mid new made outcome (report_written asked old mid new read bound only made.choices made.report results)
+      (report_failed asked old mid new read bound only made.choices made.report results)
 
 module _ (s : NetworkAsked) (asked : Asked) (old mid : Role → Meaning) (read : OnlyRead old mid) (bound : IsBound asked old)
     (made : Made) (results : ForResults asked old mid (λ g. g ≡ gives s made)) where
@@ -69,17 +76,9 @@ module _ (s : NetworkAsked) (asked : Asked) (old mid : Role → Meaning) (read :
   both_performs : WritesFirst asked JournalOut → (new : Role → Meaning) (outcome : Outcome) → WroteBoth (record { asked = s; made = made }) mid new outcome
       → Performs asked old new outcome
   both_performs writes new outcome both =
-      same_end asked old new made outcome (report_end both.report.part) both.report.status both.report.choices
-      (by both.report.part both.report.is both.report.wrote)
-    where
-      by : (part : Written) → is_part part made.report → Wrote Report both.mid new part
-          → Performs asked old new (record { status = report_end part; choices = made.choices })
-      by (all_of text) is wrote =
-          both_written asked JournalOut writes old mid read bound (gives s made) two_texts both.mid new both.journal
-          (subst (λ (t : List ℕ). Wrote Report both.mid new (all_of t)) is wrote)
-      by (front_of text) is wrote =
-          second_failed asked JournalOut writes old mid read bound (gives s made) two_texts both.mid new both.journal
-          (subst (λ (t : List ℕ). Wrote Report both.mid new (front_of t)) is wrote)
+      by_part asked old both.mid new made outcome
+      (both_written asked JournalOut writes old mid read bound (gives s made) two_texts both.mid new both.journal)
+      (second_failed asked JournalOut writes old mid read bound (gives s made) two_texts both.mid new both.journal) both.report
 
   -- the journal was written in part
   front_performs : WritesFirst asked JournalOut → (new : Role → Meaning) (outcome : Outcome)

@@ -8,10 +8,11 @@ ghost use Rattle.opennf_calls.specs.Outcome.{ForResults, RowOf};
 ghost use Rattle.call_files.specs.Phases.{GivesReport, ReadAlone};
 ghost use Rattle.opennf_calls.specs.Ended.{Performs};
 
-use call_files::{Status, put, read_said};
+use crate::reporting::put_report;
+use call_files::{Status, read_said};
 use command_words::Checking;
 use flow_filter::Text;
-use nf_io::{Outside, Role};
+use nf_io::Outside;
 use op_script::print_script;
 use std::alloc::Global;
 
@@ -20,13 +21,9 @@ pub fn check<O: Outside>(alloc: Global, asked: &Checking<'_>, outside: &mut O) -
     requires { IsBound (asks_check (check_view asked.now)) (O.seen outside.old) }
     ensures { Performs (asks_check (check_view asked.now)) (O.seen outside.old) (O.seen outside.new) (record { status = result; choices = [] }) }
 {
-    let text = match read_canonical(alloc, asked, outside) {
-        Ok(text) => text,
-        Err(status) => return status,
-    };
-    match put(outside, Role::Report, text.items()) {
-        Ok(()) => Status::Ok,
-        Err(_) => Status::WriteFault { role: Role::Report },
+    match read_canonical(alloc, asked, outside) {
+        Ok(text) => put_report(outside, text.items()),
+        Err(status) => status,
     }
 }
 

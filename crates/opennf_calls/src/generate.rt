@@ -8,7 +8,8 @@ ghost use Rattle.opennf_calls.specs.Outcome.{gen_line};
 ghost use Rattle.opennf_calls.specs.Ended.{Performs};
 ghost use Rattle.call_files.specs.Writing.{Wrote, all_of};
 
-use call_files::{Line, Status, put};
+use crate::reporting::put_report;
+use call_files::{Line, Status};
 use command_words::Generating;
 use itoa::Buffer;
 use nf_io::{Outside, Role, RoleSink};
@@ -20,12 +21,9 @@ pub fn generate<O: Outside>(alloc: Global, asked: &Generating<'_>, outside: &mut
     requires { IsBound (asks_gen (gen_view asked.now)) (O.seen outside.old) }
     ensures { Performs (asks_gen (gen_view asked.now)) (O.seen outside.old) (O.seen outside.new) (record { status = result; choices = [] }) }
 {
-    if let Err(status) = write_capture(alloc, asked, outside) {
-        return status;
-    }
-    match put(outside, Role::Report, numbers_line(asked).as_bytes()) {
-        Ok(()) => Status::Ok,
-        Err(_) => Status::WriteFault { role: Role::Report },
+    match write_capture(alloc, asked, outside) {
+        Ok(()) => put_report(outside, numbers_line(asked).as_bytes()),
+        Err(status) => status,
     }
 }
 

@@ -17,6 +17,7 @@ pub mod fail;
 pub mod generate;
 pub mod laws;
 pub mod published;
+mod reporting;
 pub mod run;
 pub mod sim;
 pub mod strong;
