@@ -1,6 +1,5 @@
 //! What an instance takes from the controller.
-ghost use Rattle.std.specs.Prelude.{◌≡◌, ◌++◌, ◌≤◌, ◌+◌, [], ◌∷◌, if◌then◌else◌, length, true, None, IfOk, IfNone, OnOk};
-ghost use Rattle.std.specs.FinMap as finite;
+ghost use Rattle.std.specs.Prelude.{◌≡◌, ◌++◌, [], ◌∷◌, if◌then◌else◌, None, IfOk, OnOk};
 ghost use Rattle.nf_msgs.specs.declared.msg.Msg.TheVariants.{PutNo as Refusing};
 ghost use Rattle.nf_msgs.specs.declared.note.Note.TheVariants.{Imported as ImportedNote, Kept as KeptNote};
 ghost use Rattle.record_table.specs.Chunks.{are_good};
@@ -34,19 +33,18 @@ impl<F: Function> Instance<F> {
         if (piece.total as usize) < piece.chunks.items().len() {
             return Ok(());
         }
-        if !first {
-            return self.put_later(op, piece, out);
+        if first {
+            if let Some(why) = self.refusal(&piece) {
+                return self.refuse(op, why, piece.chunks, out);
+            }
         }
-        match self.refusal(&piece) {
-            Some(why) => self.refuse(op, why, piece.chunks, out),
-            None => self.put_first(op, piece, out),
-        }
+        let answered = first || piece.last;
+        self.take_piece(op, piece, answered, out)
     }
 
     /// Why a piece that is put first is refused, if it is.
     fn refusal(&self, piece: &Piece) -> Option<Answer>
-        ensures value { result ≡ piece_refusal self.now piece.now }
-        ensures room { IfNone result (finite.len self.now.table.live + piece.now.total ≤ self.now.limit) }
+        ensures { result ≡ piece_refusal self.now piece.now }
     {
         let held = self.table.live_count();
         if u64::from(held) + u64::from(piece.total) > u64::from(self.limit) {
@@ -80,46 +78,24 @@ impl<F: Function> Instance<F> {
         out.send(CONTROLLER, Msg::PutNo { op, refused })
     }
 
-    /// Takes the first piece, which isn't refused.
-    fn put_first(
+    /// Takes a piece that isn't refused, and answers it where it is the first or the last.
+    fn take_piece(
         &mut self,
         op: u32,
         piece: Piece,
+        answered: bool,
         out: &mut Outbox<Msg, Note>,
     ) -> Result<(), NoMemory>
-        requires total { length piece.chunks ≤ piece.total }
-        requires room { finite.len self.old.table.live + piece.total ≤ self.old.limit }
-        ensures node { OnOk result (self.new ≡ (piece_put F.semantics self.old op piece true None).node) }
-        ensures sends { OnOk result (out.new.0 ≡ out.old.0 ++ (piece_put F.semantics self.old op piece true None).sends) }
-        ensures notes { OnOk result (out.new.1 ≡ out.old.1 ++ (piece_put F.semantics self.old op piece true None).notes) }
+        ensures node { OnOk result (self.new ≡ (piece_put F.semantics self.old op piece answered None).node) }
+        ensures sends { OnOk result (out.new.0 ≡ out.old.0 ++ (piece_put F.semantics self.old op piece answered None).sends) }
+        ensures notes { OnOk result (out.new.1 ≡ out.old.1 ++ (piece_put F.semantics self.old op piece answered None).notes) }
     {
-        let Piece { chunks, total, .. } = piece;
-        let units = units_in(self.alloc, chunks.items())?;
-        if !self.import_live(chunks, total)? {
+        let units = units_in(self.alloc, piece.chunks.items())?;
+        if !self.take_live(piece.chunks)? {
             return Ok(());
         }
         self.note_imported(op, units, out)?;
-        out.send(CONTROLLER, Msg::PutOk { op })
-    }
-
-    /// Takes a piece that comes after the first.
-    fn put_later(
-        &mut self,
-        op: u32,
-        piece: Piece,
-        out: &mut Outbox<Msg, Note>,
-    ) -> Result<(), NoMemory>
-        ensures node { OnOk result (self.new ≡ (piece_put F.semantics self.old op piece piece.last None).node) }
-        ensures sends { OnOk result (out.new.0 ≡ out.old.0 ++ (piece_put F.semantics self.old op piece piece.last None).sends) }
-        ensures notes { OnOk result (out.new.1 ≡ out.old.1 ++ (piece_put F.semantics self.old op piece piece.last None).notes) }
-    {
-        let Piece { chunks, last, .. } = piece;
-        let units = units_in(self.alloc, chunks.items())?;
-        if !self.take_live(chunks)? {
-            return Ok(());
-        }
-        self.note_imported(op, units, out)?;
-        if !last {
+        if !answered {
             return Ok(());
         }
         out.send(CONTROLLER, Msg::PutOk { op })
@@ -239,16 +215,6 @@ impl<F: Function> Instance<F> {
             op,
             units,
         })
-    }
-
-    /// Makes records of a move live, for which there is room, and tells whether no chunk was bad.
-    fn import_live(&mut self, chunks: Chunks, total: u32) -> Result<bool, NoMemory>
-        requires total { length chunks ≤ total }
-        requires room { finite.len self.old.table.live + total ≤ self.old.limit }
-        ensures good { IfOk result (λ good. good ≡ are_good F.semantics chunks) }
-        ensures node { IfOk result (λ good. self.new ≡ (if good then with_live F.semantics self.old chunks else self.old)) }
-    {
-        are_taken(self.table.import(chunks, total, self.limit))
     }
 
     /// Makes records live, and tells whether no chunk was bad.
