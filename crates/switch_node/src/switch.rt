@@ -155,7 +155,10 @@ impl Switch {
                 self.waiting = self.waiting.saturating_sub(1);
                 Ok(())
             }
-            Msg::Finish => self.finish(out),
+            Msg::Finish => {
+                self.window.close();
+                stop_all(self.instances, out)
+            }
             Msg::Credit(cell) => self.credit(cell),
             _ => Ok(()),
         }
@@ -269,17 +272,15 @@ impl Switch {
         out.note(Note::Installed(op))?;
         out.send(instance_node(from), Msg::Fence { op })
     }
+}
 
-    /// Stops each instance, in order.
-    fn finish(&mut self, out: &mut Outbox<Msg, Note>) -> Result<(), NoMemory>
-        ensures node { OnOk result (self.new ≡ (switch_step self.old Msg.Finish).node) }
-        ensures sends { OnOk result (out.new.0 ≡ out.old.0 ++ stop_messages self.old.instances) }
-        ensures notes { OnOk result (out.new.1 ≡ out.old.1) }
-    {
-        self.window.close();
-        for instance in 0..self.instances {
-            out.send(instance_node(instance), Msg::Stop)?;
-        }
-        Ok(())
+/// Stops each of so many instances, in order.
+pub fn stop_all<N>(instances: u8, out: &mut Outbox<Msg, N>) -> Result<(), NoMemory>
+    requires { instances ≤ MOST_INSTANCES }
+    ensures { OnOk result (out.new ≡ (out.old.0 ++ stop_messages instances, out.old.1)) }
+{
+    for instance in 0..instances {
+        out.send(instance_node(instance), Msg::Stop)?;
     }
+    Ok(())
 }
