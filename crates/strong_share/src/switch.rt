@@ -1,20 +1,19 @@
 //! The switch of strong sharing: it gives the filter's packets to the members in turn, and all others to the first.
-ghost use Rattle.std.specs.Prelude.{◌≡◌, ◌≤◌, ◌<◌, ◌++◌, true, OnOk};
+ghost use Rattle.std.specs.Prelude.{◌≡◌, ◌≤◌, ◌<◌, ◌++◌, OnOk};
 ghost use Rattle.nf_msgs.specs.declared.nodes.TheConstants.{MOST_INSTANCES as MOST};
-ghost use Rattle.switch_node.specs.Switch.{stop_messages};
-ghost use Rattle.packet_window.specs.Window.{has_room, window_at_start};
+ghost use Rattle.packet_window.specs.Window.{window_at_start};
 ghost use Rattle.strong_share.specs.Tables.{has_closed, member_for, on_packet, switch_step, takes_in};
 
 use crate::note::StrongNote;
 use actor_net::Outbox;
-use basics::{Boxed, NoMemory};
+use basics::NoMemory;
 use event_filter::Mark;
 use flow_filter::{CapturedPacket, Filter, Packet, Site, flow_of};
 use nf_msgs::{CONTROLLER, MOST_INSTANCES, Msg, Note, instance_node};
 use packet_window::Window;
 use std::alloc::Global;
 use std::marker::Model;
-use switch_node::switch::MOST_WINDOW;
+use switch_node::switch::{MOST_WINDOW, stop_all};
 
 /// The switch of strong sharing.
 #[derive(Drop)]
@@ -82,7 +81,10 @@ impl StrongSwitch {
         match message {
             Msg::InPacket(packet) => self.let_in(packet, out),
             Msg::InEnd => out.send(CONTROLLER, Msg::End),
-            Msg::Finish => self.finish(out),
+            Msg::Finish => {
+                self.window.close();
+                stop_all(self.members, out)
+            }
             Msg::Credit(cell) => {
                 self.window.take_home(cell);
                 Ok(())
@@ -94,7 +96,7 @@ impl StrongSwitch {
         }
     }
 
-    /// Lets a packet in, where there is room.
+    /// Puts a packet into a cell and sends it to its member, where there is room.
     fn let_in(
         &mut self,
         captured: CapturedPacket,
@@ -108,20 +110,6 @@ impl StrongSwitch {
             return Ok(());
         }
         let packet = self.window.boxed(captured)?;
-        self.carry(packet, out)
-    }
-
-    /// Puts a packet into a cell and sends it to its member.
-    fn carry(
-        &mut self,
-        packet: Boxed<Packet>,
-        out: &mut Outbox<Msg, StrongNote>,
-    ) -> Result<(), NoMemory>
-        requires { has_room self.old.window ≡ true }
-        ensures node { OnOk result (self.new ≡ (on_packet self.old packet).node) }
-        ensures sends { OnOk result (out.new.0 ≡ out.old.0 ++ (on_packet self.old packet).sends) }
-        ensures notes { OnOk result (out.new.1 ≡ out.old.1 ++ (on_packet self.old packet).notes) }
-    {
         let number = packet.get().number;
         out.note(StrongNote::Inner(Note::Arrived(number)))?;
         let member = self.member_for(packet.get());
@@ -144,18 +132,5 @@ impl StrongSwitch {
         }
         let members = u32::from(self.members);
         (packet.number.saturating_sub(1) % members) as u8
-    }
-
-    /// Stops each member, in order.
-    fn finish(&mut self, out: &mut Outbox<Msg, StrongNote>) -> Result<(), NoMemory>
-        ensures node { OnOk result (self.new ≡ (switch_step self.old Msg.Finish).node) }
-        ensures sends { OnOk result (out.new.0 ≡ out.old.0 ++ stop_messages self.old.members) }
-        ensures notes { OnOk result (out.new.1 ≡ out.old.1) }
-    {
-        self.window.close();
-        for member in 0..self.members {
-            out.send(instance_node(member), Msg::Stop)?;
-        }
-        Ok(())
     }
 }
