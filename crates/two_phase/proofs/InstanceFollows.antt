@@ -6,6 +6,7 @@ use Rattle.std.proofs.Common.{append-nil}
 use Rattle.std.specs.FinMap as finite
 use Rattle.std.proofs.lemmas.List.{map-append}
 use Rattle.record_table.specs.Chunks.{are_good}
+use Rattle.record_table.specs.Table.{TableView}
 use Rattle.event_filter.specs.declared.action.Action.TheVariants as action
 use Rattle.event_filter.specs.Rules as rules
 use Rattle.nf_msgs.specs.declared.msg.Msg.TheVariants as msg
@@ -197,17 +198,15 @@ module _ {F R : Type 0} (setting : Setting R) where
         let live = h.live in
         record { node = h; sends = ((refl, rw live (Outlines.Chunks (core.System.select (sys setting) j.table))), tt); notes = refl }
 
+    -- the instance with other live records
+    live_shows : {t : TableView R} {c : Sound f} → t.live ≡ c.live → InstanceShows setting index (record i { table = t }) (record j { table = c })
+    live_shows is = record { live = is; site_is = h.site_is; index_is = h.index_is; ended = h.ended; rules = h.rules }
+
     pub delete_follows : (c : Sound f)
         → Follows index (inner_step f i (two.Inner (msg.Delete the_update (units_in (chunks setting c)))))
         (core.inst_step (sys setting) index j (core.Delete c))
     delete_follows c = record {
-      node = record {
-        live = ap (without (units_in (chunks setting c))) h.live;
-        site_is = h.site_is;
-        index_is = h.index_is;
-        ended = h.ended;
-        rules = h.rules;
-      };
+      node = live_shows (ap (without (units_in (chunks setting c))) h.live);
       sends = ((refl, Outlines.Deleted), tt);
       notes = refl;
     }
@@ -218,13 +217,7 @@ module _ {F R : Type 0} (setting : Setting R) where
     restore_follows c =
         let good : are_good f (chunks setting c) ≡ true = (table_read f laws c.live c.sound).good in
         rw good (record {
-          node = record {
-            live = ap (λ m. newest_of f m (records_of f (chunks setting c))) h.live;
-            site_is = h.site_is;
-            index_is = h.index_is;
-            ended = h.ended;
-            rules = h.rules;
-          };
+          node = live_shows (ap (λ m. newest_of f m (records_of f (chunks setting c))) h.live);
           sends = ((refl, Outlines.Restored), tt);
           notes = refl;
         })

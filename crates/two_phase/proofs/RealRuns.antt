@@ -108,7 +108,7 @@ module _ (F : Type 0) {R : Type 0} (f : Semantics R) (laws : FunctionLaws f) (al
         window = record { name = refl; cells = refl; balanced = omega arith; flying = refl; closed = refl };
       }),
       (
-        Controllers (record { cells = []; store = tt; is = ap (λ ks. record (first_controller job) { kept = ks }) (no_chunks setting) }),
+        Controllers (record { cells = []; store = tt; is = ap (λ ks. record (first_controller job.filter) { kept = ks }) (no_chunks setting) }),
         (
           Instances (record { live = refl; site_is = refl; index_is = refl; ended = refl; rules = (refl, refl) }),
           (Instances (record { live = refl; site_is = refl; index_is = refl; ended = refl; rules = (refl, refl) }), tt),

@@ -68,10 +68,11 @@ input_at at packets = map InPacket (take at packets) ++ (InStart ∷ (map InPack
 abbrev pub first_switch : UpdateJob → SwitchState
 first_switch job = record { rules = opened []; window = open_window job.window; site = job.site; filter = job.filter }
 
-abbrev pub first_controller : UpdateJob → ControllerState
-first_controller job = record {
+-- the controller: it wasn't asked for the update yet
+abbrev pub first_controller : Filter → ControllerState
+first_controller filter = record {
   phase = Idle;
-  filter = job.filter;
+  filter = filter;
   store = [];
   kept = [];
   last = None;
@@ -85,7 +86,7 @@ module _ {F R : Type 0} (alloc : Global) (job : UpdateJob) where
   abbrev pub first_nodes : List (TwoNode F R)
   first_nodes =
       Switch (first_switch job)
-      ∷ Controller (first_controller job)
+      ∷ Controller (first_controller job.filter)
       ∷ Instance (first_instance alloc (config_of job) source)
       ∷ Instance (first_instance alloc (config_of job) destination)
       ∷ []

@@ -22,6 +22,7 @@ use Rattle.nf_msgs.specs.Nodes.{switch_node, controller_node, instance_node}
 use Rattle.instance_worker.specs.declared.instance.Instance.{Instance as InstanceState}
 use Rattle.instance_worker.specs.Instance.{instance_step}
 use Rattle.actor_net.specs.Network.{Stepped}
+use Rattle.net_world.specs.Nodes.{as_node}
 use Rattle.two_phase.specs.declared.phase.Phase.{Phase}
 use Rattle.two_phase.specs.declared.phase.Phase.TheVariants.{Idle, Freezing, Getting, Deleting, Putting, Holding}
 use Rattle.two_phase.specs.declared.phase.Phase.TheVariants.{Laying, Waiting, Turning, Settling, Ending, Over}
@@ -268,10 +269,6 @@ module _ {F R : Type 0} where
   abbrev pub inner_step : Semantics R → InstanceState F R → TwoMsg → Step (InstanceState F R)
   inner_step f i (Inner message) = with_told (passed message) (wrapped_step (instance_step f i message))
   inner_step f i message = still i
-
-  -- the step of a part of the network, as that of a node
-  abbrev pub as_node : {A : Type 0} → (A → TwoNode F R) → Step A → Step (TwoNode F R)
-  as_node make did = record { node = make did.node; sends = did.sends; notes = did.notes }
 
   -- what a node does: its row of the tables
   abbrev pub node_step : Semantics R → TwoNode F R → ℕ → TwoMsg → Step (TwoNode F R)

@@ -1,5 +1,6 @@
 //! The controller of a two-phase update, and its row for each message.
-ghost use Rattle.std.specs.Prelude.{◌≡◌, [], ◌++◌, false, None, OnOk};
+ghost use Rattle.std.specs.Prelude.{◌≡◌, ◌++◌, OnOk};
+ghost use Rattle.two_phase.specs.Start.{first_controller};
 ghost use Rattle.two_phase.specs.Tables.{and_then, controller_row, controller_step, finish_step, is_over, soon};
 
 use crate::msg::TwoMsg;
@@ -59,17 +60,7 @@ impl Model for TwoCtrl {
 impl TwoCtrl {
     /// A controller that wasn't asked for the update yet. This takes no memory.
     pub(crate) fn open(alloc: Global, filter: Filter) -> Self
-        ensures { result ≡ record {
-          phase = Phase.Idle;
-          filter = filter;
-          store = [];
-          kept = [];
-          last = None;
-          seen = None;
-          ended = false;
-          finished = false;
-          stopped = false;
-        } }
+        ensures { result ≡ first_controller filter }
     {
         TwoCtrl {
             phase: Phase::Idle,
