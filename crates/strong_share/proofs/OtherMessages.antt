@@ -2,7 +2,6 @@
 use Rattle.strong_share.proofs.Words.{◌≡◌, ℕ, refl, Packet, Chunk, FullCell, Msg, SwitchState, ControllerState, switch_step, switch_still, row_of_member}
 use Rattle.strong_share.proofs.Words.{controller_still}
 use Rattle.nf_msgs.specs.declared.msg.Msg.TheVariants as msg
-use Rattle.strong_share.specs.Tables.{row_of_switch}
 
 pub other_of_member : (c : ControllerState) (i : ℕ) (message : Msg)
     → ((op : ℕ) (cell : FullCell) → message ≡ msg.Event op cell → ⊥) → ((op : ℕ) (chunk : Chunk) → message ≡ msg.Shared op chunk → ⊥)
@@ -13,10 +12,6 @@ other_of_member c i (msg.Shared op chunk) a b d e = absurd (b op chunk refl)
 other_of_member c i (msg.Synced op) a b d e = absurd (d op refl)
 other_of_member c i msg.Final a b d e = absurd (e refl)
 other_of_member c i message a b d e = refl
-
-pub other_of_switch : (c : ControllerState) (message : Msg) → (message ≡ msg.End → ⊥) → row_of_switch c message ≡ controller_still c
-other_of_switch c msg.End a = absurd (a refl)
-other_of_switch c message a = refl
 
 pub other_message : (s : SwitchState) (message : Msg)
     → ((p : Packet) → message ≡ msg.InPacket p → ⊥) → (message ≡ msg.InEnd → ⊥) → (message ≡ msg.Finish → ⊥)

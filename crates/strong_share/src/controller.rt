@@ -1,7 +1,7 @@
 //! The controller of strong sharing: it queues the packets that members raise, and serves them one at a time.
 ghost use Rattle.std.specs.Prelude.{◌≡◌, ◌≤◌, ◌<◌, [], ◌∷◌, ◌++◌, IfOk, IfSome, OnOk};
 ghost use Rattle.strong_share.specs.Tables.{all_stopped, controller_step, is_idle, member_at, on_event, on_final};
-ghost use Rattle.strong_share.specs.Tables.{row_of_member, row_of_switch, serve_step, shared_row, sync_to, synced_row, syncs};
+ghost use Rattle.strong_share.specs.Tables.{row_of_member, serve_step, shared_row, sync_to, synced_row, syncs};
 
 use crate::note::StrongNote;
 use crate::queued_packet::QueuedPacket;
@@ -88,9 +88,14 @@ impl StrongCtrl {
         ensures sends { OnOk result (out.new.0 ≡ out.old.0 ++ (controller_step self.old port message).sends) }
         ensures notes { OnOk result (out.new.1 ≡ out.old.1 ++ (controller_step self.old port message).notes) }
     {
-        match self.member_at(port) {
-            Some(member) => self.take_from_member(member, message, out),
-            None => self.take_from_switch(message, out),
+        match (self.member_at(port), message) {
+            (Some(member), message) => self.take_from_member(member, message, out),
+            // The switch says that the input has ended: all members are to stop.
+            (None, Msg::End) => out.send(SWITCH, Msg::Finish),
+            (None, message) => {
+                drop(message);
+                Ok(())
+            }
         }
     }
 
@@ -264,25 +269,6 @@ impl StrongCtrl {
     {
         if self.finals < self.members {
             self.finals += 1;
-        }
-    }
-
-    /// Takes what the switch sends: at the end of the input all members are to stop.
-    fn take_from_switch(
-        &mut self,
-        message: Msg,
-        out: &mut Outbox<Msg, StrongNote>,
-    ) -> Result<(), NoMemory>
-        ensures node { OnOk result (self.new ≡ (row_of_switch self.old message).node) }
-        ensures sends { OnOk result (out.new.0 ≡ out.old.0 ++ (row_of_switch self.old message).sends) }
-        ensures notes { OnOk result (out.new.1 ≡ out.old.1 ++ (row_of_switch self.old message).notes) }
-    {
-        match message {
-            Msg::End => out.send(SWITCH, Msg::Finish),
-            _ => {
-                drop(message);
-                Ok(())
-            }
         }
     }
 }

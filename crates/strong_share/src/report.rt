@@ -1,7 +1,7 @@
 //! The report of strong sharing.
 ghost use Rattle.std.specs.Prelude.{◌≡◌, ◌++◌, IfOk, OnOk, filter_map, length};
-ghost use Rattle.report_lines.specs.Seen.{processed_in, texts_seen};
-ghost use Rattle.strong_share.specs.Report.{event_lines, head_lines, member_lines, named_members, packet_lines, strong_text};
+ghost use Rattle.report_lines.specs.Seen.{processed_in};
+ghost use Rattle.strong_share.specs.Report.{head_lines, member_lines, named_members, packet_lines, strong_text};
 ghost use Rattle.strong_share.specs.Words.{entries, inner_notes};
 
 use crate::node::StrongNode;
@@ -34,6 +34,7 @@ pub struct StrongHead {
 }
 
 /// The report of a world.
+#[tactic(auto, unfolding(crate::specs::Report::strong_text))]
 pub fn report_strong<F: Function>(
     alloc: Global,
     head: &StrongHead,
@@ -41,25 +42,12 @@ pub fn report_strong<F: Function>(
 ) -> Result<Text, NoMemory>
     ensures { IfOk result (λ text. text ≡ strong_text F.semantics head.now world.now) }
 {
-    let mut text = Text::open(alloc);
-    push_report(alloc, &mut text, head, world)?;
-    Ok(text)
-}
-
-/// Puts the report of a world after a text.
-#[tactic(auto, unfolding(crate::specs::Report::strong_text))]
-fn push_report<F: Function>(
-    alloc: Global,
-    text: &mut Text,
-    head: &StrongHead,
-    world: &World<StrongNode<F>>,
-) -> Result<(), NoMemory>
-    ensures { OnOk result (text.new ≡ text.old ++ strong_text F.semantics head.now world.now) }
-{
     let names = head.names.as_slice();
-    head.push_lines(text)?;
-    push_log::<F>(alloc, text, names, world.log())?;
-    push_members(alloc, text, names, world.nodes())
+    let mut text = Text::open(alloc);
+    head.push_lines(&mut text)?;
+    push_log::<F>(alloc, &mut text, names, world.log())?;
+    push_members(alloc, &mut text, names, world.nodes())?;
+    Ok(text)
 }
 
 impl StrongHead {
@@ -91,7 +79,7 @@ fn push_log<F: Function>(
 }
 
 /// Puts the lines of the packets after a text: of those that were processed, and of those that were queued.
-#[tactic(auto, unfolding(crate::specs::Report::packet_lines))]
+#[tactic(auto, unfolding(crate::specs::Report::packet_lines, crate::specs::Report::event_lines))]
 fn push_packets<F: Function>(
     alloc: Global,
     text: &mut Text,
@@ -103,21 +91,8 @@ fn push_packets<F: Function>(
 {
     let names = name_bytes(alloc, names)?;
     push_outs::<F>(alloc, text, notes)?;
-    push_events(alloc, text, &names, queued)?;
+    push_named(alloc, text, b"event ", &names, queued)?;
     push_dones(alloc, text, &names, notes)
-}
-
-/// Puts the lines of what was queued after a text.
-#[tactic(auto, unfolding(crate::specs::Report::event_lines))]
-fn push_events(
-    alloc: Global,
-    text: &mut Text,
-    names: &[&[u8]],
-    queued: &[(u32, u8)],
-) -> Result<(), NoMemory>
-    ensures { OnOk result (text.new ≡ text.old ++ event_lines (texts_seen names.now) queued.now) }
-{
-    push_named(alloc, text, b"event ", names, queued)
 }
 
 /// The notes that packets were processed.
@@ -148,7 +123,8 @@ fn entries(alloc: Global, log: &[StrongNote]) -> Result<Vec<(u32, u8)>, NoMemory
     Ok(queued)
 }
 
-/// Puts the lines of the members among the nodes after a text.
+/// Puts the lines of the records and of the tallies of the members among the nodes after a text.
+#[tactic(auto, unfolding(crate::specs::Report::member_lines))]
 fn push_members<F: Function>(
     alloc: Global,
     text: &mut Text,
@@ -158,22 +134,9 @@ fn push_members<F: Function>(
     ensures { OnOk result (text.new ≡ text.old ++ member_lines F.semantics (length names.now) (named_members names.now nodes.now)) }
 {
     let members = named_members(alloc, names, nodes)?;
-    push_named_members(alloc, text, names.len(), &members)
-}
-
-/// Puts the lines of the members' records, and of their tallies, after a text.
-#[tactic(auto, unfolding(crate::specs::Report::member_lines))]
-fn push_named_members<F: Function>(
-    alloc: Global,
-    text: &mut Text,
-    count: usize,
-    members: &[NamedInstance<'_, F>],
-) -> Result<(), NoMemory>
-    ensures { OnOk result (text.new ≡ text.old ++ member_lines F.semantics count members.now) }
-{
-    push_states(alloc, text, members)?;
-    push_standbys(alloc, text, members)?;
-    push_tail(text, count, members)
+    push_states(alloc, text, &members)?;
+    push_standbys(alloc, text, &members)?;
+    push_tail(text, names.len(), &members)
 }
 
 /// The members among the nodes, each under the name at its place.
