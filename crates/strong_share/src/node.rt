@@ -30,9 +30,9 @@ impl<F: Function> Actor for StrongNode<F> {
     ghost has_ended = { node_ended };
 
     fn ready(&self, item: &Msg) -> bool {
-        match self {
-            StrongNode::Switch(switch) => switch.ready(item),
-            StrongNode::Ctrl(_) | StrongNode::Instance(_) => true,
+        match (self, item) {
+            (StrongNode::Switch(switch), Msg::InPacket(_)) => switch.window.has_room(),
+            _ => true,
         }
     }
 
@@ -51,7 +51,7 @@ impl<F: Function> Actor for StrongNode<F> {
 
     fn ended(&self) -> bool {
         match self {
-            StrongNode::Switch(switch) => switch.ended(),
+            StrongNode::Switch(switch) => switch.window.has_ended(),
             StrongNode::Ctrl(controller) => controller.ended(),
             StrongNode::Instance(member) => member.instance().ended(),
         }

@@ -2,7 +2,7 @@
 ghost use Rattle.std.specs.Prelude.{◌≡◌, ◌≤◌, ◌<◌, ◌++◌, OnOk};
 ghost use Rattle.nf_msgs.specs.declared.nodes.TheConstants.{MOST_INSTANCES as MOST};
 ghost use Rattle.packet_window.specs.Window.{window_at_start};
-ghost use Rattle.strong_share.specs.Tables.{has_closed, member_for, on_packet, switch_step, takes_in};
+ghost use Rattle.strong_share.specs.Tables.{member_for, on_packet, switch_step};
 
 use crate::note::StrongNote;
 use actor_net::Outbox;
@@ -18,7 +18,7 @@ use switch_node::switch::{MOST_WINDOW, stop_all};
 /// The switch of strong sharing.
 #[derive(Drop)]
 pub struct StrongSwitch {
-    window: Window,
+    pub(crate) window: Window,
     site: Site,
     filter: Filter,
     members: u8,
@@ -49,23 +49,6 @@ impl StrongSwitch {
             filter,
             members,
         }
-    }
-
-    /// Whether it takes this item from the head of the input.
-    pub(crate) fn ready(&self, item: &Msg) -> bool
-        ensures { result ≡ takes_in self.now item.now }
-    {
-        match item {
-            Msg::InPacket(_) => self.window.has_room(),
-            _ => true,
-        }
-    }
-
-    /// Whether all is done and no packet is under way.
-    pub(crate) fn ended(&self) -> bool
-        ensures { result ≡ has_closed self.now }
-    {
-        self.window.has_ended()
     }
 
     /// Takes a message: its row of the table.

@@ -41,9 +41,9 @@ impl<F: Function> Actor for TwoNode<F> {
     ghost has_ended = { node_ended };
 
     fn ready(&self, item: &TwoMsg) -> bool {
-        match self {
-            TwoNode::Switch(switch) => switch.ready(item),
-            TwoNode::Ctrl(_) | TwoNode::Instance(_) => true,
+        match (self, item) {
+            (TwoNode::Switch(switch), TwoMsg::InPacket(_)) => switch.window.has_room(),
+            _ => true,
         }
     }
 
@@ -62,7 +62,7 @@ impl<F: Function> Actor for TwoNode<F> {
 
     fn ended(&self) -> bool {
         match self {
-            TwoNode::Switch(switch) => switch.ended(),
+            TwoNode::Switch(switch) => switch.window.has_ended(),
             TwoNode::Ctrl(controller) => controller.ended(),
             TwoNode::Instance(instance) => instance.ended(),
         }

@@ -31,6 +31,7 @@ pub struct TwoHead {
 }
 
 /// The report of a world.
+#[tactic(auto, unfolding(crate::specs::Report::two_text))]
 pub fn report_two<F: Function>(
     alloc: Global,
     head: &TwoHead,
@@ -38,26 +39,13 @@ pub fn report_two<F: Function>(
 ) -> Result<Text, NoMemory>
     ensures { IfOk result (λ text. text ≡ two_text F.semantics head.now world.now) }
 {
-    let mut text = Text::open(alloc);
-    push_report(alloc, &mut text, head, world)?;
-    Ok(text)
-}
-
-/// Puts the report of a world after a text.
-#[tactic(auto, unfolding(crate::specs::Report::two_text))]
-fn push_report<F: Function>(
-    alloc: Global,
-    text: &mut Text,
-    head: &TwoHead,
-    world: &World<TwoNode<F>>,
-) -> Result<(), NoMemory>
-    ensures { OnOk result (text.new ≡ text.old ++ two_text F.semantics head.now world.now) }
-{
     let names: [&[u8]; 2] = [b"a", b"b"];
-    head.push_lines(text)?;
-    push_log::<F>(alloc, text, &names, world.log())?;
-    push_verdicts(text, world.log())?;
-    push_instances(alloc, text, &names, world.nodes())
+    let mut text = Text::open(alloc);
+    head.push_lines(&mut text)?;
+    push_log::<F>(alloc, &mut text, &names, world.log())?;
+    push_verdicts(&mut text, world.log())?;
+    push_instances(alloc, &mut text, &names, world.nodes())?;
+    Ok(text)
 }
 
 impl TwoHead {
@@ -136,7 +124,8 @@ fn verdict_line(note: &TwoNote) -> &'static str
     }
 }
 
-/// Puts the lines of the instances among the nodes after a text.
+/// Puts the lines of the records and of the tallies of the instances among the nodes after a text.
+#[tactic(auto, unfolding(crate::specs::Report::instance_lines))]
 fn push_instances<F: Function>(
     alloc: Global,
     text: &mut Text,
@@ -146,20 +135,8 @@ fn push_instances<F: Function>(
     ensures { OnOk result (text.new ≡ text.old ++ instance_lines F.semantics (named_instances (texts_seen names.now) nodes.now)) }
 {
     let instances = named_instances(alloc, names, nodes)?;
-    push_named_instances(alloc, text, &instances)
-}
-
-/// Puts the lines of the instances' records and of their tallies after a text.
-#[tactic(auto, unfolding(crate::specs::Report::instance_lines))]
-fn push_named_instances<F: Function>(
-    alloc: Global,
-    text: &mut Text,
-    instances: &[NamedInstance<'_, F>],
-) -> Result<(), NoMemory>
-    ensures { OnOk result (text.new ≡ text.old ++ instance_lines F.semantics instances.now) }
-{
-    push_states(alloc, text, instances)?;
-    push_tail(text, 2, instances)
+    push_states(alloc, text, &instances)?;
+    push_tail(text, 2, &instances)
 }
 
 /// The instances among the nodes, each under the name at its place.

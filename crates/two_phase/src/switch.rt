@@ -2,8 +2,8 @@
 ghost use Rattle.std.specs.Prelude.{◌≡◌, ◌≤◌, ◌<◌, ◌++◌, [], ◌∷◌, true, IfOk, OnOk};
 ghost use Rattle.switch_rules.specs.Rules.{opened};
 ghost use Rattle.packet_window.specs.Window.{has_room, window_at_start as open_window};
-ghost use Rattle.two_phase.specs.Tables.{arrival_step, destination_node, goes_to, has_closed, on_finish};
-ghost use Rattle.two_phase.specs.Tables.{on_lay, on_packet, switch_step, takes_in, target_of, the_update};
+ghost use Rattle.two_phase.specs.Tables.{arrival_step, destination_node, goes_to, on_finish};
+ghost use Rattle.two_phase.specs.Tables.{on_lay, on_packet, switch_step, target_of, the_update};
 
 use crate::msg::TwoMsg;
 use crate::note::TwoNote;
@@ -24,7 +24,7 @@ use switch_rules::{Rules, Target};
 #[derive(Drop)]
 pub struct TwoSwitch {
     rules: Rules,
-    window: Window,
+    pub(crate) window: Window,
     site: Site,
     filter: Filter,
     alloc: Global,
@@ -56,23 +56,6 @@ impl TwoSwitch {
             filter,
             alloc,
         })
-    }
-
-    /// Whether it takes this item from the head of the input.
-    pub(crate) fn ready(&self, item: &TwoMsg) -> bool
-        ensures { result ≡ takes_in self.now item.now }
-    {
-        match item {
-            TwoMsg::InPacket(_) => self.window.has_room(),
-            _ => true,
-        }
-    }
-
-    /// Whether all is done and no packet is under way.
-    pub(crate) fn ended(&self) -> bool
-        ensures { result ≡ has_closed self.now }
-    {
-        self.window.has_ended()
     }
 
     /// Takes a message: its row of the table.
