@@ -1,7 +1,7 @@
 //! The controller of a two-phase update, and its row for each message.
 ghost use Rattle.std.specs.Prelude.{◌≡◌, ◌++◌, OnOk};
 ghost use Rattle.two_phase.specs.Start.{first_controller};
-ghost use Rattle.two_phase.specs.Tables.{and_then, controller_row, controller_step, finish_step, is_over, soon};
+ghost use Rattle.two_phase.specs.Tables.{controller_row, controller_step, finish_step, is_over};
 
 use crate::msg::TwoMsg;
 use crate::note::TwoNote;
@@ -95,15 +95,6 @@ impl TwoCtrl {
         ensures notes { OnOk result (out.new.1 ≡ out.old.1 ++ (controller_step self.old port message).notes) }
     {
         self.take(port, message, out)?;
-        self.go_on_or_finish(out)
-    }
-
-    /// What may be done after the row: the update goes on, and then the source is stopped.
-    fn go_on_or_finish(&mut self, out: &mut Outbox<TwoMsg, TwoNote>) -> Result<(), NoMemory>
-        ensures node { OnOk result (self.new ≡ (and_then (soon self.old.phase self.old) finish_step).node) }
-        ensures sends { OnOk result (out.new.0 ≡ out.old.0 ++ (and_then (soon self.old.phase self.old) finish_step).sends) }
-        ensures notes { OnOk result (out.new.1 ≡ out.old.1 ++ (and_then (soon self.old.phase self.old) finish_step).notes) }
-    {
         self.go_on(out)?;
         self.finish(out)
     }

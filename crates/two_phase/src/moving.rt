@@ -39,22 +39,15 @@ impl TwoCtrl {
         ensures notes { OnOk result (out.new.1 ≡ out.old.1) }
     {
         match self.phase {
-            Phase::Freezing => self.get(out),
+            Phase::Freezing => {
+                self.phase = Phase::Getting;
+                let filter = Boxed::new(self.alloc, self.filter)?;
+                let op = THE_UPDATE;
+                send_to(SOURCE, Msg::Get { op, filter }, out)
+            }
             Phase::Holding => self.ask_low(out),
             _ => Ok(()),
         }
-    }
-
-    /// Asks the source for the chunks of the filter's units.
-    fn get(&mut self, out: &mut Outbox<TwoMsg, TwoNote>) -> Result<(), NoMemory>
-        ensures node { OnOk result (self.new ≡ (on_enabled Phase.Freezing self.old).node) }
-        ensures sends { OnOk result (out.new.0 ≡ out.old.0 ++ (on_enabled Phase.Freezing self.old).sends) }
-        ensures notes { OnOk result (out.new.1 ≡ out.old.1) }
-    {
-        self.phase = Phase::Getting;
-        let filter = Boxed::new(self.alloc, self.filter)?;
-        let op = THE_UPDATE;
-        send_to(SOURCE, Msg::Get { op, filter }, out)
     }
 
     /// Sends what is stored on to the destination, in order, and asks for the low rule.

@@ -94,23 +94,16 @@ impl TwoCtrl {
         ensures notes { OnOk result (out.new.1 ≡ out.old.1 ++ (soon self.old.phase self.old).notes) }
     {
         match self.phase {
-            Phase::Settling => self.settle(out),
-            Phase::Waiting => self.give_up(out),
+            Phase::Settling if self.has_settled() => {
+                self.phase = Phase::Ending;
+                send_to(DESTINATION, Msg::Fence { op: THE_UPDATE }, out)
+            }
+            Phase::Waiting if self.ended => {
+                self.phase = Phase::Over;
+                out.note(TwoNote::NoPacket)
+            }
             _ => Ok(()),
         }
-    }
-
-    /// Sends the fence, once the last packet that was copied is seen.
-    fn settle(&mut self, out: &mut Outbox<TwoMsg, TwoNote>) -> Result<(), NoMemory>
-        ensures node { OnOk result (self.new ≡ (soon Phase.Settling self.old).node) }
-        ensures sends { OnOk result (out.new.0 ≡ out.old.0 ++ (soon Phase.Settling self.old).sends) }
-        ensures notes { OnOk result (out.new.1 ≡ out.old.1) }
-    {
-        if !self.has_settled() {
-            return Ok(());
-        }
-        self.phase = Phase::Ending;
-        send_to(DESTINATION, Msg::Fence { op: THE_UPDATE }, out)
     }
 
     /// Whether the last packet that was copied is the latest that was seen.
@@ -121,18 +114,5 @@ impl TwoCtrl {
             (Some(seen), Some(last)) => seen == last,
             _ => false,
         }
-    }
-
-    /// Notes that no packet came, once the input has ended.
-    fn give_up(&mut self, out: &mut Outbox<TwoMsg, TwoNote>) -> Result<(), NoMemory>
-        ensures node { OnOk result (self.new ≡ (soon Phase.Waiting self.old).node) }
-        ensures sends { OnOk result (out.new.0 ≡ out.old.0) }
-        ensures notes { OnOk result (out.new.1 ≡ out.old.1 ++ (soon Phase.Waiting self.old).notes) }
-    {
-        if !self.ended {
-            return Ok(());
-        }
-        self.phase = Phase::Over;
-        out.note(TwoNote::NoPacket)
     }
 }
