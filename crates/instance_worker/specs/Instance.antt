@@ -1,10 +1,13 @@
 -- An instance: what it does with each message. This project's own.
-use Rattle.std.specs.Prelude.{ℕ, ◌+◌, ◌&&◌, ◌||◌, nat_lt, Bool, true, if◌then◌else◌, List, [], ◌∷◌}
-use Rattle.std.specs.Prelude.{◌++◌, map, length, Option, None, Some, option_map, Result, Ok, Err}
+use Rattle.std.specs.Prelude.{ℕ, ◌+◌, ◌&&◌, ◌||◌, nat_lt, Bool, true, false, if◌then◌else◌, List, [], ◌∷◌}
+use Rattle.std.specs.Prelude.{◌++◌, map, length, replicate, Option, None, Some, option_map, Result, Ok, Err}
 use Rattle.std.specs.FinMap as finite
+use Rattle.std.specs.declared.alloc.Global.{Global}
 use Rattle.flow_filter.specs.declared.packet.Packet.{Packet}
 use Rattle.flow_filter.specs.declared.filter.Filter.{Filter}
+use Rattle.flow_filter.specs.declared.site.Site.{Site}
 use Rattle.flow_filter.specs.Flow.{flow_of}
+use Rattle.flow_filter.specs.Limits.{most_instances}
 use Rattle.nf_function.specs.declared.chunk.Chunk.{Chunk}
 use Rattle.nf_function.specs.declared.unit.Unit as units
 use Rattle.nf_function.specs.Semantics.{Semantics, output_for, unit_at}
@@ -12,7 +15,7 @@ use Rattle.nf_function.specs.Tally.{with_packet_counted, merged}
 use Rattle.state_chunk.specs.declared.fault.ChunkFault.{ChunkFault}
 use Rattle.state_chunk.specs.Format.{record_chunk, tally_chunk}
 use Rattle.state_chunk.specs.Reading.{tally_read}
-use Rattle.record_table.specs.Table.{TableView, part, with_part, after_packet, taken_by, without, newest_of, replaced_by}
+use Rattle.record_table.specs.Table.{TableView, empty, part, with_part, after_packet, taken_by, without, newest_of, replaced_by}
 use Rattle.record_table.specs.Chunks.{chunks_of, records_of, are_good}
 use Rattle.event_filter.specs.declared.action.Action.{Action}
 use Rattle.event_filter.specs.declared.mark.Mark.{Mark}
@@ -59,6 +62,20 @@ chunk_told op None = []
 chunk_told op (Some chunk) = Shared op chunk ∷ []
 
 module _ {F R : Type 0} where
+  -- an instance without records and rules: its number, how many live records it may have, and whether it reads chunks of version 1 alone
+  abbrev pub instance_at_start : Global → ℕ → ℕ → Bool → Site → Instance F R
+  instance_at_start alloc index limit marked site = record {
+    table = empty;
+    rules = [];
+    tally = record { slots = replicate most_instances 0 };
+    site = site;
+    alloc = alloc;
+    limit = limit;
+    index = index;
+    marked = marked;
+    ended = false;
+  }
+
   -- the instance stays as it is, and sends nothing
   abbrev pub still : Instance F R → Step F R
   still i = record { node = i; sends = []; notes = [] }

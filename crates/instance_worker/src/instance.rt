@@ -1,8 +1,6 @@
 //! An instance: its records, its event rules and its tally, and which of its calls takes a message.
-ghost use Rattle.std.specs.Prelude.{◌≡◌, ◌<◌, [], ◌++◌, false, OnErr, OnOk, replicate};
+ghost use Rattle.std.specs.Prelude.{◌≡◌, ◌<◌, ◌++◌, OnErr, OnOk};
 ghost use Rattle.event_filter.specs.Rules.{with_rule};
-ghost use Rattle.record_table.specs.Table.{empty};
-ghost use Rattle.flow_filter.specs.Limits.{most_instances};
 
 use crate::number::InstanceNumber;
 use actor_net::{Actor, Outbox};
@@ -69,22 +67,12 @@ impl<F: Function> Actor for Instance<F> {
 }
 
 impl<F: Function> Instance<F> {
-    ghost use Rattle.instance_worker.specs.Instance.{instance_step, on_delete, on_enable, on_stop};
+    ghost use Rattle.instance_worker.specs.Instance.{instance_at_start, instance_step, on_delete, on_enable, on_stop};
 
     /// An instance without records and rules. This takes no memory.
     pub fn open(alloc: Global, index: u8, limit: u32, marked: bool, site: Site) -> Self
         requires { index < MOST_INSTANCES }
-        ensures { result ≡ record {
-          table = empty;
-          rules = [];
-          tally = record { slots = replicate most_instances 0 };
-          site = site;
-          alloc = alloc;
-          limit = limit;
-          index = index;
-          marked = marked;
-          ended = false;
-        } }
+        ensures { result ≡ instance_at_start alloc index limit marked site }
     {
         Instance {
             table: Table::open(alloc),

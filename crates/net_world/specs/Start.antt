@@ -1,12 +1,12 @@
 -- How a network starts: its configuration, and the world in which nothing has happened yet. This project's own.
-use Rattle.std.specs.Prelude.{◌≡◌, ◌<◌, ◌≤◌, ℕ, zero, suc, false, List, [], ◌∷◌, ◌++◌, length, replicate, slice_index, slice_index_or, All}
+use Rattle.std.specs.Prelude.{◌≡◌, ◌<◌, ◌≤◌, ℕ, zero, suc, false, List, [], ◌∷◌, ◌++◌, length, slice_index, slice_index_or, All}
 use Rattle.std.specs.declared.alloc.Global.{Global}
-use Rattle.record_table.specs.Table.{empty}
 use Rattle.switch_rules.specs.Rules as rules
 use Rattle.switch_node.specs.Switch.{SwitchState}
 use Rattle.switch_node.specs.declared.switch.TheConstants.{MOST_WINDOW}
 use Rattle.ctrl_node.specs.Controller as controller
 use Rattle.instance_worker.specs.declared.instance.Instance.{Instance as InstanceState}
+use Rattle.instance_worker.specs.Instance.{instance_at_start}
 use Rattle.nf_msgs.specs.declared.msg.Msg.{Msg}
 use Rattle.nf_msgs.specs.declared.note.Note.{Note}
 use Rattle.nf_msgs.specs.declared.nodes.TheConstants.{MOST_INSTANCES}
@@ -15,7 +15,6 @@ use Rattle.actor_net.specs.Opening.{opening}
 use Rattle.net_world.specs.declared.config.Config.{Config}
 use Rattle.net_world.specs.declared.node.Node.{Node}
 use Rattle.net_world.specs.declared.node.Node.TheVariants.{Switch, Controller, Instance}
-use Rattle.flow_filter.specs.Limits.{most_instances}
 
 -- a configuration: 1 to 16 instances with a limit and a mark each, a window, and routes to instances
 pub record IsConfig (c : Config) : Type 0 where
@@ -41,17 +40,7 @@ first_switch c = record {
 module _ {F R : Type 0} (alloc : Global) (c : Config) where
   -- an instance without records and rules
   abbrev pub first_instance : ℕ → InstanceState F R
-  first_instance i = record {
-    table = empty;
-    rules = [];
-    tally = record { slots = replicate most_instances 0 };
-    site = c.site;
-    alloc = alloc;
-    limit = slice_index c.limits i;
-    index = i;
-    marked = slice_index_or c.marked i false;
-    ended = false;
-  }
+  first_instance i = instance_at_start alloc i (slice_index c.limits i) (slice_index_or c.marked i false) c.site
 
   -- the first instances, as many as the number says
   abbrev pub first_instances : ℕ → List (Node F R)

@@ -1,15 +1,14 @@
 -- How strong sharing starts: what it is given, and the world in which nothing has happened yet. This project's own.
-use Rattle.std.specs.Prelude.{◌≡◌, ◌≤◌, ◌<◌, ◌^◌, ℕ, false, List, [], ◌∷◌, ◌++◌, map, length, replicate, All}
+use Rattle.std.specs.Prelude.{◌≡◌, ◌≤◌, ◌<◌, ◌^◌, ℕ, false, List, [], ◌∷◌, ◌++◌, map, length, All}
 use Rattle.std.specs.List.{range_with_len}
 use Rattle.std.specs.declared.alloc.Global.{Global}
 use Rattle.flow_filter.specs.declared.filter.Filter.{Filter}
 use Rattle.flow_filter.specs.declared.packet.Packet.{Packet}
 use Rattle.flow_filter.specs.declared.site.Site.{Site}
-use Rattle.flow_filter.specs.Limits.{most_instances}
 use Rattle.nf_function.specs.declared.kind.Kind.{Kind}
 use Rattle.event_filter.specs.declared.action.Action.TheVariants.{Drop}
-use Rattle.record_table.specs.Table.{empty}
 use Rattle.instance_worker.specs.declared.instance.Instance.{Instance as InstanceState}
+use Rattle.instance_worker.specs.Instance.{instance_at_start}
 use Rattle.packet_window.specs.Window.{window_at_start}
 use Rattle.nf_msgs.specs.declared.msg.Msg.{Msg}
 use Rattle.nf_msgs.specs.declared.msg.Msg.TheVariants.{InPacket, InEnd}
@@ -73,16 +72,8 @@ first_controller job = record { members = job.members; queue = []; serving = Idl
 
 -- a member: no records, and one rule, by which it raises the filter's packets as events
 abbrev pub member_at_start : {F R : Type 0} → Global → Filter → Site → ℕ → InstanceState F R
-member_at_start alloc filter site i = record {
-  table = empty;
+member_at_start alloc filter site i = record (instance_at_start alloc i member_limit false site) {
   rules = record { op = the_share; filter = filter; action = Drop; held = [] } ∷ [];
-  tally = record { slots = replicate most_instances 0 };
-  site = site;
-  alloc = alloc;
-  limit = member_limit;
-  index = i;
-  marked = false;
-  ended = false;
 }
 
 module _ {F R : Type 0} (alloc : Global) (job : StrongJob) where
