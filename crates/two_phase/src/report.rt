@@ -61,7 +61,7 @@ impl TwoHead {
 }
 
 /// Puts the lines of the packets of a log after a text.
-#[tactic(auto, using(crate::proofs::PacketLines::same_packets))]
+#[tactic(auto, using(crate::proofs::PacketLines::packets_put))]
 fn push_log<F: Function>(
     alloc: Global,
     text: &mut Text,
@@ -71,21 +71,8 @@ fn push_log<F: Function>(
     ensures { OnOk result (text.new ≡ text.old ++ packet_lines F.semantics (texts_seen names.now) (inner_notes log.now)) }
 {
     let notes = processed_notes(alloc, log)?;
-    push_packets::<F>(alloc, text, names, &notes)
-}
-
-/// Puts the lines of the packets after a text.
-#[tactic(auto, unfolding(crate::specs::Report::packet_lines))]
-fn push_packets<F: Function>(
-    alloc: Global,
-    text: &mut Text,
-    names: &[&[u8]],
-    notes: &[Note],
-) -> Result<(), NoMemory>
-    ensures { OnOk result (text.new ≡ text.old ++ packet_lines F.semantics (texts_seen names.now) notes.now) }
-{
-    push_outs::<F>(alloc, text, notes)?;
-    push_dones(alloc, text, names, notes)
+    push_outs::<F>(alloc, text, &notes)?;
+    push_dones(alloc, text, names, &notes)
 }
 
 /// The notes that packets were processed.
