@@ -1,6 +1,5 @@
 //! The four nodes of a two-phase update as one type, and what its instances tell besides.
 ghost use Rattle.std.specs.Prelude.{◌≡◌, ◌++◌, map, OnOk};
-ghost use Rattle.instance_worker.specs.Instance.{instance_step};
 ghost use Rattle.two_phase.specs.declared.note.TwoNote.TheVariants.{Inner as AnInner};
 ghost use Rattle.two_phase.specs.Tables.{inner_step, passed, sent_inside, told_of};
 
@@ -85,24 +84,10 @@ fn step_instance<F: Function>(
         return Ok(());
     };
     let passed = passed(&message);
-    step_inside(instance, port, message, out)?;
-    tell(instance.alloc(), passed, out)
-}
-
-/// The step of an instance on a message of the network, among what the update sends and notes.
-fn step_inside<F: Function>(
-    instance: &mut Instance<F>,
-    port: u8,
-    message: Msg,
-    out: &mut Outbox<TwoMsg, TwoNote>,
-) -> Result<(), NoMemory>
-    ensures node { OnOk result (instance.new ≡ (instance_step F.semantics instance.old message).node) }
-    ensures sends { OnOk result (out.new.0 ≡ out.old.0 ++ map sent_inside (instance_step F.semantics instance.old message).sends) }
-    ensures notes { OnOk result (out.new.1 ≡ out.old.1 ++ map AnInner (instance_step F.semantics instance.old message).notes) }
-{
     let mut inner = Outbox::open(instance.alloc());
     instance.step(port, message, &mut inner)?;
-    move_all(inner, out)
+    move_all(inner, out)?;
+    tell(instance.alloc(), passed, out)
 }
 
 /// Moves what an instance sends and notes to what the update does, in order.
