@@ -10,7 +10,6 @@ pub mod NumberedPackets
 pub mod RealRuns
 pub mod RealPromises
 pub mod Theorem
-pub mod OtherMessages
 pub mod PushedPackets
 pub mod SentMessages
 pub mod PacketLines

@@ -121,37 +121,17 @@ impl TwoCtrl {
                 self.laid(high);
                 Ok(())
             }
-            TwoMsg::Inner(message) => self.take_inner(port, message, out),
-            _ => {
-                drop(message);
-                Ok(())
-            }
-        }
-    }
-
-    /// The row of a message of an instance.
-    fn take_inner(
-        &mut self,
-        port: u8,
-        message: Msg,
-        out: &mut Outbox<TwoMsg, TwoNote>,
-    ) -> Result<(), NoMemory>
-        ensures node { OnOk result (self.new ≡ (controller_row self.old port (TwoMsg.Inner message)).node) }
-        ensures sends { OnOk result (out.new.0 ≡ out.old.0 ++ (controller_row self.old port (TwoMsg.Inner message)).sends) }
-        ensures notes { OnOk result (out.new.1 ≡ out.old.1 ++ (controller_row self.old port (TwoMsg.Inner message)).notes) }
-    {
-        match message {
-            Msg::Enabled { .. } => self.enabled(out),
-            Msg::Chunks { chunks, .. } => self.take_chunks(chunks, out),
-            Msg::Deleted { .. } => self.deleted(out),
-            Msg::Restored { .. } => self.restored(out),
-            Msg::Event { parcel, .. } => self.take_event(parcel, out),
-            Msg::Seen { packet, .. } => {
+            TwoMsg::Inner(Msg::Enabled { .. }) => self.enabled(out),
+            TwoMsg::Inner(Msg::Chunks { chunks, .. }) => self.take_chunks(chunks, out),
+            TwoMsg::Inner(Msg::Deleted { .. }) => self.deleted(out),
+            TwoMsg::Inner(Msg::Restored { .. }) => self.restored(out),
+            TwoMsg::Inner(Msg::Event { parcel, .. }) => self.take_event(parcel, out),
+            TwoMsg::Inner(Msg::Seen { packet, .. }) => {
                 self.seen = Some(packet.get().number);
                 Ok(())
             }
-            Msg::Fenced { .. } => self.fenced(port, out),
-            Msg::Final => self.take_final(port, out),
+            TwoMsg::Inner(Msg::Fenced { .. }) => self.fenced(port, out),
+            TwoMsg::Inner(Msg::Final) => self.take_final(port, out),
             _ => {
                 drop(message);
                 Ok(())

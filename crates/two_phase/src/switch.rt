@@ -75,8 +75,8 @@ impl TwoSwitch {
             TwoMsg::Forward(cell) => forward(cell, out),
             TwoMsg::Lay { high } => self.lay(high, out),
             TwoMsg::Finish { to } => self.finish(to, out),
-            TwoMsg::Inner(message) => {
-                self.take_back(message);
+            TwoMsg::Inner(Msg::Credit(cell)) => {
+                self.window.take_home(cell);
                 Ok(())
             }
             _ => {
@@ -183,16 +183,6 @@ impl TwoSwitch {
             self.window.close();
         }
         out.send(instance_node(to), TwoMsg::Inner(Msg::Stop))
-    }
-
-    /// Takes a cell home that an instance sends back.
-    fn take_back(&mut self, message: Msg)
-        ensures { self.new ≡ (switch_step self.old (TwoMsg.Inner message)).node }
-    {
-        match message {
-            Msg::Credit(cell) => self.window.take_home(cell),
-            _ => drop(message),
-        }
     }
 }
 
