@@ -27,7 +27,6 @@ pub mod Weights
 pub mod Flows
 pub mod Ending
 pub mod Runs
-pub mod OtherMessages
 pub mod RunCalls
 pub mod StartNodes
 pub mod MemberNames

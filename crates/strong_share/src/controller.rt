@@ -1,7 +1,7 @@
 //! The controller of strong sharing: it queues the packets that members raise, and serves them one at a time.
 ghost use Rattle.std.specs.Prelude.{◌≡◌, ◌≤◌, ◌<◌, [], ◌∷◌, ◌++◌, IfOk, IfSome, OnOk};
 ghost use Rattle.strong_share.specs.Tables.{all_stopped, controller_step, is_idle, member_at, on_event, on_final};
-ghost use Rattle.strong_share.specs.Tables.{row_of_member, serve_step, shared_row, sync_to, synced_row, syncs};
+ghost use Rattle.strong_share.specs.Tables.{serve_step, shared_row, sync_to, synced_row, syncs};
 
 use crate::note::StrongNote;
 use crate::queued_packet::QueuedPacket;
@@ -89,10 +89,18 @@ impl StrongCtrl {
         ensures notes { OnOk result (out.new.1 ≡ out.old.1 ++ (controller_step self.old port message).notes) }
     {
         match (self.member_at(port), message) {
-            (Some(member), message) => self.take_from_member(member, message, out),
+            (Some(member), Msg::Event { parcel, .. }) => self.queue_up(member, parcel, out),
+            (Some(member), Msg::Shared { chunk, .. }) => {
+                self.spread(member, chunk.into_inner(), out)
+            }
+            (Some(_), Msg::Synced { .. }) => self.count_synced(out),
+            (Some(_), Msg::Final) => {
+                self.count_final();
+                Ok(())
+            }
             // The switch says that the input has ended: all members are to stop.
             (None, Msg::End) => out.send(SWITCH, Msg::Finish),
-            (None, message) => {
+            (_, message) => {
                 drop(message);
                 Ok(())
             }
@@ -112,33 +120,6 @@ impl StrongCtrl {
             Some(member)
         } else {
             None
-        }
-    }
-
-    /// Takes what a member sends.
-    fn take_from_member(
-        &mut self,
-        member: u8,
-        message: Msg,
-        out: &mut Outbox<Msg, StrongNote>,
-    ) -> Result<(), NoMemory>
-        requires { member < MOST_INSTANCES }
-        ensures node { OnOk result (self.new ≡ (row_of_member self.old member message).node) }
-        ensures sends { OnOk result (out.new.0 ≡ out.old.0 ++ (row_of_member self.old member message).sends) }
-        ensures notes { OnOk result (out.new.1 ≡ out.old.1 ++ (row_of_member self.old member message).notes) }
-    {
-        match message {
-            Msg::Event { parcel, .. } => self.queue_up(member, parcel, out),
-            Msg::Shared { chunk, .. } => self.spread(member, chunk.into_inner(), out),
-            Msg::Synced { .. } => self.count_synced(out),
-            Msg::Final => {
-                self.count_final();
-                Ok(())
-            }
-            _ => {
-                drop(message);
-                Ok(())
-            }
         }
     }
 
