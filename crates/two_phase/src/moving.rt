@@ -1,7 +1,7 @@
 //! What the controller of an update does until the state is moved.
 ghost use Rattle.std.specs.Prelude.{◌≡◌, ◌<◌, [], ◌∷◌, ◌++◌, OnOk};
 ghost use Rattle.nf_msgs.specs.Nodes.{instance_node};
-ghost use Rattle.two_phase.specs.Tables.{forward_messages, is_storing, low_asked, on_chunks, on_deleted};
+ghost use Rattle.two_phase.specs.Tables.{forward_messages, is_storing, on_chunks, on_deleted};
 ghost use Rattle.two_phase.specs.Tables.{on_enabled, on_event, on_restored, on_start, the_update};
 
 use crate::controller::TwoCtrl;
@@ -32,7 +32,8 @@ impl TwoCtrl {
         self.enable(SOURCE, Action::Drop, out)
     }
 
-    /// The source hands packets out, and is to give its chunks; or the destination holds packets.
+    /// The source hands packets out, and is to give its chunks; or the destination holds packets: what is stored goes on to it, in order, and the low rule is
+    /// to be laid.
     pub(crate) fn enabled(&mut self, out: &mut Outbox<TwoMsg, TwoNote>) -> Result<(), NoMemory>
         ensures node { OnOk result (self.new ≡ (on_enabled self.old.phase self.old).node) }
         ensures sends { OnOk result (out.new.0 ≡ out.old.0 ++ (on_enabled self.old.phase self.old).sends) }
@@ -45,20 +46,13 @@ impl TwoCtrl {
                 let op = THE_UPDATE;
                 send_to(SOURCE, Msg::Get { op, filter }, out)
             }
-            Phase::Holding => self.ask_low(out),
+            Phase::Holding => {
+                self.phase = Phase::Laying;
+                forward_all(&mut self.store, out)?;
+                out.send(SWITCH, TwoMsg::Lay { high: false })
+            }
             _ => Ok(()),
         }
-    }
-
-    /// Sends what is stored on to the destination, in order, and asks for the low rule.
-    fn ask_low(&mut self, out: &mut Outbox<TwoMsg, TwoNote>) -> Result<(), NoMemory>
-        ensures node { OnOk result (self.new ≡ (low_asked self.old).node) }
-        ensures sends { OnOk result (out.new.0 ≡ out.old.0 ++ (low_asked self.old).sends) }
-        ensures notes { OnOk result (out.new.1 ≡ out.old.1) }
-    {
-        self.phase = Phase::Laying;
-        forward_all(&mut self.store, out)?;
-        out.send(SWITCH, TwoMsg::Lay { high: false })
     }
 
     /// The chunks came: the source is to remove their records.
