@@ -1,5 +1,5 @@
 //! The controller of strong sharing: it queues the packets that members raise, and serves them one at a time.
-ghost use Rattle.std.specs.Prelude.{◌≡◌, ◌≤◌, ◌<◌, [], ◌∷◌, ◌++◌, IfOk, IfSome, OnOk};
+ghost use Rattle.std.specs.Prelude.{◌≡◌, ◌≤◌, ◌<◌, [], ◌∷◌, ◌++◌, IfSome, OnOk};
 ghost use Rattle.strong_share.specs.Tables.{all_stopped, controller_step, is_idle, member_at, on_event, on_final};
 ghost use Rattle.strong_share.specs.Tables.{serve_step, shared_row, sync_to, synced_row, syncs};
 

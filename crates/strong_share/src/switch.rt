@@ -2,13 +2,13 @@
 ghost use Rattle.std.specs.Prelude.{◌≡◌, ◌≤◌, ◌<◌, ◌++◌, OnOk};
 ghost use Rattle.nf_msgs.specs.declared.nodes.TheConstants.{MOST_INSTANCES as MOST};
 ghost use Rattle.packet_window.specs.Window.{window_at_start};
-ghost use Rattle.strong_share.specs.Tables.{member_for, on_packet, switch_step};
+ghost use Rattle.strong_share.specs.Tables.{member_for, switch_step};
 
 use crate::note::StrongNote;
 use actor_net::Outbox;
 use basics::NoMemory;
 use event_filter::Mark;
-use flow_filter::{CapturedPacket, Filter, Packet, Site, flow_of};
+use flow_filter::{Filter, Packet, Site, flow_of};
 use nf_msgs::{CONTROLLER, MOST_INSTANCES, Msg, Note, instance_node};
 use packet_window::Window;
 use std::alloc::Global;
@@ -62,7 +62,15 @@ impl StrongSwitch {
         ensures notes { OnOk result (out.new.1 ≡ out.old.1 ++ (switch_step self.old message).notes) }
     {
         match message {
-            Msg::InPacket(packet) => self.let_in(packet, out),
+            Msg::InPacket(captured) if self.window.has_room() => {
+                let packet = self.window.boxed(captured)?;
+                let number = packet.get().number;
+                out.note(StrongNote::Inner(Note::Arrived(number)))?;
+                let member = self.member_for(packet.get());
+                let parcel = self.window.let_in(packet);
+                let mark = Mark::Plain;
+                out.send(instance_node(member), Msg::Carry { mark, parcel })
+            }
             Msg::InEnd => out.send(CONTROLLER, Msg::End),
             Msg::Finish => {
                 self.window.close();
@@ -77,31 +85,6 @@ impl StrongSwitch {
                 Ok(())
             }
         }
-    }
-
-    /// Puts a packet into a cell and sends it to its member, where there is room.
-    fn let_in(
-        &mut self,
-        captured: CapturedPacket,
-        out: &mut Outbox<Msg, StrongNote>,
-    ) -> Result<(), NoMemory>
-        ensures node { OnOk result (self.new ≡ (on_packet self.old captured).node) }
-        ensures sends { OnOk result (out.new.0 ≡ out.old.0 ++ (on_packet self.old captured).sends) }
-        ensures notes { OnOk result (out.new.1 ≡ out.old.1 ++ (on_packet self.old captured).notes) }
-    {
-        if !self.window.has_room() {
-            return Ok(());
-        }
-        let packet = self.window.boxed(captured)?;
-        let number = packet.get().number;
-        out.note(StrongNote::Inner(Note::Arrived(number)))?;
-        let member = self.member_for(packet.get());
-        let parcel = self.window.let_in(packet);
-        let message = Msg::Carry {
-            mark: Mark::Plain,
-            parcel,
-        };
-        out.send(instance_node(member), message)
     }
 
     /// The member to which a packet goes: what the filter matches goes round by the packets' numbers, the rest to the first.
