@@ -3,7 +3,7 @@ ghost use Rattle.std.specs.Prelude.{◌≡◌, ◌≤◌, ◌<◌, ◌++◌, [],
 ghost use Rattle.switch_rules.specs.Rules.{opened};
 ghost use Rattle.packet_window.specs.Window.{has_room, window_at_start as open_window};
 ghost use Rattle.two_phase.specs.Tables.{arrival_step, destination_node, goes_to, on_finish};
-ghost use Rattle.two_phase.specs.Tables.{on_lay, on_packet, switch_step, target_of, the_update};
+ghost use Rattle.two_phase.specs.Tables.{on_lay, switch_step, target_of, the_update};
 
 use crate::msg::TwoMsg;
 use crate::note::TwoNote;
@@ -11,7 +11,7 @@ use crate::roles::{DESTINATION, INSTANCES, SOURCE, THE_UPDATE};
 use actor_net::Outbox;
 use basics::{Boxed, NoMemory};
 use event_filter::Mark;
-use flow_filter::{CapturedPacket, Filter, Packet, Site, flow_of};
+use flow_filter::{Filter, Packet, Site, flow_of};
 use nf_msgs::{CONTROLLER, Msg, Note, instance_node};
 use packet_pool::Cell;
 use packet_window::Window;
@@ -69,7 +69,14 @@ impl TwoSwitch {
         ensures notes { OnOk result (out.new.1 ≡ out.old.1 ++ (switch_step self.old message).notes) }
     {
         match message {
-            TwoMsg::InPacket(packet) => self.let_in(packet, out),
+            TwoMsg::InPacket(captured) if self.window.has_room() => {
+                let packet = self.window.boxed(captured)?;
+                match self.target_of(packet.get()) {
+                    Target::Controller => self.carry_and_copy(packet, out),
+                    Target::Instance(to) if to < INSTANCES => self.carry(to, packet, out),
+                    Target::Instance(_) => Ok(()),
+                }
+            }
             TwoMsg::InStart => out.send(CONTROLLER, TwoMsg::Start),
             TwoMsg::InEnd => out.send(CONTROLLER, TwoMsg::End),
             TwoMsg::Forward(cell) => forward(cell, out),
@@ -83,27 +90,6 @@ impl TwoSwitch {
                 drop(message);
                 Ok(())
             }
-        }
-    }
-
-    /// Sends a packet to its target.
-    fn let_in(
-        &mut self,
-        captured: CapturedPacket,
-        out: &mut Outbox<TwoMsg, TwoNote>,
-    ) -> Result<(), NoMemory>
-        ensures node { OnOk result (self.new ≡ (on_packet self.old captured).node) }
-        ensures sends { OnOk result (out.new.0 ≡ out.old.0 ++ (on_packet self.old captured).sends) }
-        ensures notes { OnOk result (out.new.1 ≡ out.old.1 ++ (on_packet self.old captured).notes) }
-    {
-        if !self.window.has_room() {
-            return Ok(());
-        }
-        let packet = self.window.boxed(captured)?;
-        match self.target_of(packet.get()) {
-            Target::Controller => self.carry_and_copy(packet, out),
-            Target::Instance(to) if to < INSTANCES => self.carry(to, packet, out),
-            Target::Instance(_) => Ok(()),
         }
     }
 
