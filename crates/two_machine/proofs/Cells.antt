@@ -179,6 +179,12 @@ module _ {U T C R O : Type 0} (S : System U T C R O) where
   cb_cells i Fence l = let all = all_cells (record i { rule = Free; held = [] }) i.held in let one = all.0 in let two = all.1 in omega (arith, one, two)
   cb_cells i m l = absurd l
 
+  -- the controller takes a message that brings it this many cells
+  ctrl_takes : (window : ℕ) (v : World T C O) (port : ℕ) (m : Msg C) (n : ℕ) → cell_in (kind port m) ≡ n → v.sw.flying ≡ cells v + n → v.sw.window ≡ window
+      → Counts window (put_ctrl S v (ctrl_step S v.ct port m))
+  ctrl_takes window v port m n brings flying window_is =
+      ctrl_counts window v (ctrl_step S v.ct port m) (cell_in (kind port m)) (step_keeps v.ct port m) (omega (arith, flying, brings)) window_is
+
   ac_cells : (m : Msg C) → Label S Ac m → cell_in (kind 2 m) ≡ cell m
   ac_cells (Carry p) l = absurd l
   ac_cells (Pass p) l = absurd l
@@ -215,20 +221,11 @@ module _ {U T C R O : Type 0} (S : System U T C R O) where
       let two = back_cells v.sw m n l (omega (arith, f)) in
       switch_counts window (with_waits S Bw rest v) (switch_step S v.sw m) (cell m) two.0 two.1 (omega (arith, f)) h.window_is
   counts_keeps window Sc v m rest l ready no_drop h =
-      let f = h.flying in
-      let is = sc_cells m l in
-      ctrl_counts window (with_waits S Sc rest v) (ctrl_step S v.ct 0 m) (cell_in (kind 0 m)) (step_keeps v.ct 0 m) (omega (arith, f, is))
-      h.window_is
+      let f = h.flying in ctrl_takes window (with_waits S Sc rest v) 0 m 0 (sc_cells m l) (omega (arith, f)) h.window_is
   counts_keeps window Ac v m rest l ready no_drop h =
-      let f = h.flying in
-      let is = ac_cells m l in
-      ctrl_counts window (with_waits S Ac rest v) (ctrl_step S v.ct 2 m) (cell_in (kind 2 m)) (step_keeps v.ct 2 m) (omega (arith, f, is))
-      h.window_is
+      let f = h.flying in ctrl_takes window (with_waits S Ac rest v) 2 m (cell m) (ac_cells m l) (omega (arith, f)) h.window_is
   counts_keeps window Bc v m rest l ready no_drop h =
-      let f = h.flying in
-      let is = bc_cells m l in
-      ctrl_counts window (with_waits S Bc rest v) (ctrl_step S v.ct 3 m) (cell_in (kind 3 m)) (step_keeps v.ct 3 m) (omega (arith, f, is))
-      h.window_is
+      let f = h.flying in ctrl_takes window (with_waits S Bc rest v) 3 m 0 (bc_cells m l) (omega (arith, f)) h.window_is
   counts_keeps window Sa v m rest l ready no_drop h =
       let f = h.flying in a_counts window (with_waits S Sa rest v) (inst_step S 0 v.a m) (cell m) (sa_cells v.a m l) (omega (arith, f)) h.window_is
   counts_keeps window Ca v m rest l ready no_drop h =

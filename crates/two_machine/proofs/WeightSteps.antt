@@ -27,17 +27,17 @@ module _ {U T C R O : Type 0} (S : System U T C R O) where
       let d = weigh-append w_sb v.sb (sent 3 did.sends) in
       omega (arith, a, b, d, cost)
 
-  pub a_less : (v : World T C O) (did : Step S (Inst T)) (n : ℕ)
-      → length did.node.held + weigh w_one (sent 0 did.sends) + weigh w_ac (sent 1 did.sends) + 1 ≤ length v.a.held + n
-      → weight S (put_a S v did) + 1 ≤ weight S v + n
+  -- what an instance holds and sends, where its messages to the controller weigh this much, and the message that it took
+  abbrev inst_costs : (Msg C → ℕ) → Step S (Inst T) → ℕ
+  inst_costs w did = length did.node.held + weigh w_one (sent 0 did.sends) + weigh w (sent 1 did.sends) + 1
+
+  pub a_less : (v : World T C O) (did : Step S (Inst T)) (n : ℕ) → inst_costs w_ac did ≤ length v.a.held + n → weight S (put_a S v did) + 1 ≤ weight S v + n
   a_less v did n cost =
       let a = weigh-append w_one v.aw (sent 0 did.sends) in
       let b = weigh-append w_ac v.ac (sent 1 did.sends) in
       omega (arith, a, b, cost)
 
-  pub b_less : (v : World T C O) (did : Step S (Inst T)) (n : ℕ)
-      → length did.node.held + weigh w_one (sent 0 did.sends) + weigh w_one (sent 1 did.sends) + 1 ≤ length v.b.held + n
-      → weight S (put_b S v did) + 1 ≤ weight S v + n
+  pub b_less : (v : World T C O) (did : Step S (Inst T)) (n : ℕ) → inst_costs w_one did ≤ length v.b.held + n → weight S (put_b S v did) + 1 ≤ weight S v + n
   b_less v did n cost =
       let a = weigh-append w_one v.bw (sent 0 did.sends) in
       let b = weigh-append w_one v.bc (sent 1 did.sends) in
@@ -75,35 +75,24 @@ module _ {U T C R O : Type 0} (S : System U T C R O) where
   back_costs s (Credit p) l = omega arith
   back_costs s m l = absurd l
 
-  carry_a : {i : Inst T} {p : ℕ} {did : Step S (Inst T)} → Carried S 0 i p did
-      → length did.node.held + weigh w_one (sent 0 did.sends) + weigh w_ac (sent 1 did.sends) + 1 ≤ length i.held + 6
-  carry_a {i} {p} (Held covers) = omega (arith, length_push i.held p)
-  carry_a x = omega arith
+  carry_costs : (w : Msg C → ℕ) → ((p : ℕ) → w (Event p) ≤ 5) → {n : ℕ} {i : Inst T} {p : ℕ} {did : Step S (Inst T)} → Carried S n i p did
+      → inst_costs w did ≤ length i.held + 6
+  carry_costs w event {n} {i} {p} (Held covers) = omega (arith, length_push i.held p)
+  carry_costs w event {n} {i} {p} x = let five = event p in omega (arith, five)
 
-  sa_costs : (i : Inst T) (m : Msg C) → Label S Sa m
-      → length (inst_step S 0 i m).node.held + weigh w_one (sent 0 (inst_step S 0 i m).sends) + weigh w_ac (sent 1 (inst_step S 0 i m).sends) + 1
-      ≤ length i.held + w_sa m
-  sa_costs i (Carry p) l = carry_a (carried S 0 i p)
+  sa_costs : (i : Inst T) (m : Msg C) → Label S Sa m → inst_costs w_ac (inst_step S 0 i m) ≤ length i.held + w_sa m
+  sa_costs i (Carry p) l = carry_costs w_ac (λ q. omega arith) (carried S 0 i p)
   sa_costs i Stop l = omega arith
   sa_costs i m l = absurd l
 
-  ca_costs : (i : Inst T) (m : Msg C) → Label S Ca m
-      → length (inst_step S 0 i m).node.held + weigh w_one (sent 0 (inst_step S 0 i m).sends) + weigh w_ac (sent 1 (inst_step S 0 i m).sends) + 1
-      ≤ length i.held + 2
+  ca_costs : (i : Inst T) (m : Msg C) → Label S Ca m → inst_costs w_ac (inst_step S 0 i m) ≤ length i.held + 2
   ca_costs i (Enable r) l = omega arith
   ca_costs i Get l = omega arith
   ca_costs i (Delete c) l = omega arith
   ca_costs i m l = absurd l
 
-  carry_b : {i : Inst T} {p : ℕ} {did : Step S (Inst T)} → Carried S 1 i p did
-      → length did.node.held + weigh w_one (sent 0 did.sends) + weigh w_one (sent 1 did.sends) + 1 ≤ length i.held + 6
-  carry_b {i} {p} (Held covers) = omega (arith, length_push i.held p)
-  carry_b run = omega arith
-
-  sb_costs : (i : Inst T) (m : Msg C) → Label S Sb m
-      → length (inst_step S 1 i m).node.held + weigh w_one (sent 0 (inst_step S 1 i m).sends) + weigh w_one (sent 1 (inst_step S 1 i m).sends) + 1
-      ≤ length i.held + w_sb m
-  sb_costs i (Carry p) l = carry_b (carried S 1 i p)
+  sb_costs : (i : Inst T) (m : Msg C) → Label S Sb m → inst_costs w_one (inst_step S 1 i m) ≤ length i.held + w_sb m
+  sb_costs i (Carry p) l = carry_costs w_one (λ q. omega arith) (carried S 1 i p)
   sb_costs i (Pass p) l = omega arith
   sb_costs i Stop l = omega arith
   sb_costs i m l = absurd l
@@ -115,9 +104,7 @@ module _ {U T C R O : Type 0} (S : System U T C R O) where
   all_costs i [] = (refl, refl, refl)
   all_costs i (p ∷ ps) = let rest = all_costs (processed S 1 i p).node ps in (rest.0, omega (arith, rest.1), rest.2)
 
-  cb_costs : (i : Inst T) (m : Msg C) → Label S Cb m
-      → length (inst_step S 1 i m).node.held + weigh w_one (sent 0 (inst_step S 1 i m).sends) + weigh w_one (sent 1 (inst_step S 1 i m).sends) + 1
-      ≤ length i.held + 2
+  cb_costs : (i : Inst T) (m : Msg C) → Label S Cb m → inst_costs w_one (inst_step S 1 i m) ≤ length i.held + 2
   cb_costs i (Enable r) l = omega arith
   cb_costs i (Restore c) l = omega arith
   cb_costs i Fence l =
