@@ -1,5 +1,6 @@
 -- The lowest share that matches a flow, by a number that none of them is below.
-use Rattle.std.proofs.Common.{◌≡◌, ℕ, ◌≤◌, ◌<◌, Bool, true, false, cond, eqb, leb, List, [], ◌∷◌, Option, None, Some, refl, sym, ap, ◌∙◌, ◌⊎◌, inl, inr, arith}
+use Rattle.std.proofs.Common.{◌≡◌, ℕ, ◌≤◌, ◌<◌, Bool, true, false, cond, eqb, leb, List, [], ◌∷◌, Option, None, Some, refl, sym, ap, subst, ◌∙◌, ◌⊎◌, inl, inr}
+use Rattle.std.proofs.Common.{arith}
 use Rattle.std.specs.Prelude.{find, option_map}
 use Rattle.std.specs.List.{AllByRecursion}
 use Rattle.std.specs.Map.{lookup, keys_of}
@@ -22,7 +23,7 @@ use Rattle.ctrl_node.specs.declared.operation.Operation.{Operation}
 use Rattle.ctrl_node.specs.declared.operation.Operation.TheVariants.{Move, Copy, Share}
 use Rattle.ctrl_node.specs.Operations.{OpenOperations, is_shared_by, share_filter, share_of}
 use Rattle.ctrl_node.specs.ShareIndex.{AreNoted}
-use Rattle.ctrl_node.proofs.OperationLookUps.{Rise, entries-view, get-view, order_test, view}
+use Rattle.ctrl_node.proofs.OperationLookUps.{Rise, entries-view, get-view, inserted, order_test, view}
 
 module _ {X : Type 0} where
   -- what is found among numbers above one is above it
@@ -136,6 +137,15 @@ pub noted_again : (gs : List SpanGroup) (operations : OpenOperations) (op : ℕ)
     → finite.get operations op ≡ Some was → share_filter now ≡ share_filter was → AreNoted gs (finite.insert operations op now)
 noted_again gs operations op was now noted found same =
     noted_with gs gs operations op now noted (λ n f is. is) (λ f is. noted op was f found (sym same ∙ is))
+
+-- an operation that is written where it stands, and keeps its filter: the numbers rise as before, and the shares are noted
+pub written_noted : (gs : List SpanGroup) (old new : List (ℕ × Operation)) (op : ℕ) (was now : Operation) → Rise (keys_of old) → AreNoted gs (view old)
+    → lookup (eqb op) old ≡ Some was → keys_of new ≡ keys_of old → ((q : ℕ) → lookup (eqb q) new ≡ cond (eqb op q) (Some now) (lookup (eqb q) old))
+    → share_filter now ≡ share_filter was → Rise (keys_of new) × AreNoted gs (view new)
+written_noted gs old new op was now rise noted at keys each same = (
+  subst Rise (sym keys) rise,
+  subst (AreNoted gs) (sym (inserted old new (view old) op now refl each)) (noted_again gs (view old) op was now noted (get-view old op ∙ at) same),
+)
 
 -- without one the others are noted
 pub noted_without : (gs : List SpanGroup) (operations : OpenOperations) (op : ℕ) → AreNoted gs operations → AreNoted gs (finite.remove operations op)

@@ -52,6 +52,10 @@ module _ {X : Type 0} where
   pub get-view : (es : List (ℕ × X)) (q : ℕ) → finite.get (view es) q ≡ lookup (eqb q) es
   get-view es q = get-from_entries nat_cmp_total es q ∙ found es q
 
+  -- and so has the map that they are
+  pub found_in : (es : List (ℕ × X)) {m : finite.FinMap nat_cmp X} (q : ℕ) {o : Option X} → view es ≡ m → lookup (eqb q) es ≡ o → finite.get m q ≡ o
+  found_in es q is at = ap (λ m. finite.get m q) (sym is) ∙ (get-view es q ∙ at)
+
   below_from : (k : ℕ) (es : List (ℕ × X)) → AllByRecursion (λ y. nat_cmp k y ≡ Less) (keys_of es) → T (below_all nat_cmp k es)
   below_from k [] all = tt
   below_from k (e ∷ es) all = yes_and (is_lt (nat_cmp k e.0)) (below_all nat_cmp k es) (subst (λ o. T (is_lt o)) (sym all.0) tt) (below_from k es all.1)
