@@ -79,29 +79,17 @@ module _ {R : Type 0} (S : Sys R) (laws : IsSys S) (u : Unit) (n : ℕ) (w : Wor
 
     -- at one of a move's sides
     module _ (z : Seeing) (d : List Ran) (l : List ℕ) (phase : Phase R) (k : Bool) (nodes : Nodes z.op.src z.op.dst z.third) where
-      link_at : (side : Side) → expect z.op.src z.op.dst z.third (rest_at S.F side d l phase k) 0 (place S z side) ≡ map Carry l
-      link_at At_a = let aa : (z.op.src == z.op.src) ≡ true = grind (arith, nat_tests) in rw aa refl
-      link_at At_b =
+      -- the packets on the link to the side, and the live record there
+      at_place : (side : Side) → (expect z.op.src z.op.dst z.third (rest_at S.F side d l phase k) 0 (place S z side) ≡ map Carry l)
+          × ((node_at S z (rest_at S.F side d l phase k) (place S z side)).live ≡ after S.F d)
+      at_place At_a = let aa : (z.op.src == z.op.src) ≡ true = grind (arith, nat_tests) in (rw aa refl, rw aa refl)
+      at_place At_b =
           let ba : (z.op.dst == z.op.src) ≡ false = grind (arith, nat_tests, nodes.ab) in
-          let bb : (z.op.dst == z.op.dst) ≡ true = grind (arith, nat_tests) in
-          rw (ba, bb) refl
-      link_at At_c =
+          let bb : (z.op.dst == z.op.dst) ≡ true = grind (arith, nat_tests) in (rw (ba, bb) refl, rw (ba, bb) refl)
+      at_place At_c =
           let ca : (z.third == z.op.src) ≡ false = grind (arith, nat_tests, nodes.ac) in
           let cb : (z.third == z.op.dst) ≡ false = grind (arith, nat_tests, nodes.bc) in
-          let self : (z.third == z.third) ≡ true = grind (arith, nat_tests) in
-          rw (ca, cb, self) refl
-
-      live_at : (side : Side) → (node_at S z (rest_at S.F side d l phase k) (place S z side)).live ≡ after S.F d
-      live_at At_a = let aa : (z.op.src == z.op.src) ≡ true = grind (arith, nat_tests) in rw aa refl
-      live_at At_b =
-          let ba : (z.op.dst == z.op.src) ≡ false = grind (arith, nat_tests, nodes.ab) in
-          let bb : (z.op.dst == z.op.dst) ≡ true = grind (arith, nat_tests) in
-          rw (ba, bb) refl
-      live_at At_c =
-          let ca : (z.third == z.op.src) ≡ false = grind (arith, nat_tests, nodes.ac) in
-          let cb : (z.third == z.op.dst) ≡ false = grind (arith, nat_tests, nodes.bc) in
-          let self : (z.third == z.third) ≡ true = grind (arith, nat_tests) in
-          rw (ca, cb, self) refl
+          let self : (z.third == z.third) ≡ true = grind (arith, nat_tests) in (rw (ca, cb, self) refl, rw (ca, cb, self) refl)
 
       done_at : (side : Side) → (rest_at S.F side d l phase k).done ≡ d
       done_at At_a = refl
@@ -127,9 +115,9 @@ module _ {R : Type 0} (S : Sys R) (laws : IsSys S) (u : Unit) (n : ℕ) (w : Wor
           left = l;
           flag = b;
           two = subst (λ y. 2 ≤ y) (sym at) (place_two z d l phase k h.nodes side);
-          none = λ few. none_carried R l (sym (link_at z d l phase k h.nodes side)
+          none = λ few. none_carried R l (sym (at_place z d l phase k h.nodes side).0
               ∙ no_items z (rest_at S.F side d l phase k) h src dst 0 (place S z side) (omega (arith, some)) (subst (λ y. y < n) at few));
-          live = ap (λ y. S.B.at u (w.inst y).live) at ∙ (h.insts (place S z side)).live ∙ live_at z d l phase k h.nodes side;
+          live = ap (λ y. S.B.at u (w.inst y).live) at ∙ (h.insts (place S z side)).live ∙ (at_place z d l phase k h.nodes side).1;
           done = same_done S z w.done ∙ h.done ∙ ap firsts (done_at z d l phase k h.nodes side);
           order = ordered;
           flag_is = e;
