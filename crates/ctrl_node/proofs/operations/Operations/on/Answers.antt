@@ -1,5 +1,5 @@
 -- The operation is written where it stands. A share keeps its filter, and so it is noted still.
-use Rattle.std.proofs.Common.{◌≡◌, Option, None, Some, refl, sym, ap, subst, ◌++◌, append-nil, ◌∙◌}
+use Rattle.std.proofs.Common.{◌≡◌, None, Some, refl, sym, ap, subst, ◌++◌, append-nil, ◌∙◌}
 use Rattle.std.proofs.lemmas.Result.{on_ok_weaker}
 use Rattle.std.specs.Prelude.{IsSome, OnOk, IfOk}
 use Rattle.std.specs.Option.{option_copied_mut}

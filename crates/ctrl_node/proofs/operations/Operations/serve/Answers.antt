@@ -1,5 +1,5 @@
 -- The share is written where it stands, and any other operation as it was. A share keeps its filter, and so it is noted still.
-use Rattle.std.proofs.Common.{◌≡◌, Option, None, Some, refl, sym, ap, subst, ◌++◌, append-nil, ◌∙◌}
+use Rattle.std.proofs.Common.{◌≡◌, Some, refl, sym, ap, subst, ◌++◌, append-nil, ◌∙◌}
 use Rattle.std.proofs.lemmas.Result.{on_ok_weaker}
 use Rattle.std.specs.Prelude.{IsSome, OnOk}
 use Rattle.std.specs.Option.{option_copied_mut}
