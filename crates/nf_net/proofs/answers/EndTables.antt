@@ -168,9 +168,11 @@ module _ (g : Given) (c : ControllerState) (are : AreKnown g c) where
     handed = λ op port m asked. (handed_rests op port m).end_same;
     queued = λ op cell asked. refl;
     answers = λ k op answer asked. refl;
-    moves = λ k op from to filter keep asked. refl;
-    copies = λ k op from to filter asked. refl;
-    shares = λ k op filter home others asked. refl;
+    begins = record {
+      moves = λ k op from to filter keep asked. refl;
+      copies = λ k op from to filter asked. refl;
+      shares = λ k op filter home others asked. refl;
+    };
   })
 
   -- what is left of the way to the controller after its step, and what it says

@@ -59,9 +59,11 @@ module _ (c : ControllerState) where
     handed = λ op port m going other. handed_aside op port m;
     queued = λ op cell going other. refl;
     answers = λ k op answer going other. refl;
-    moves = λ k op from to filter keep going other. refl;
-    copies = λ k op from to filter going other. refl;
-    shares = λ k op filter home others going other. refl;
+    begins = record {
+      moves = λ k op from to filter keep going other. refl;
+      copies = λ k op from to filter going other. refl;
+      shares = λ k op filter home others going other. refl;
+    };
   })
 
   -- what becomes of the end and of the stopped instances

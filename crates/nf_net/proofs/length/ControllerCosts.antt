@@ -2,7 +2,7 @@
 use Rattle.nf_net.proofs.Words.{◌≡◌, ℕ, ◌+◌, ◌*◌, ◌≤◌, Bool, true, false, Option, None, Some, List, [], ◌∷◌, ◌++◌, length, refl, arith, if◌then◌else◌, ◌&&◌}
 use Rattle.nf_net.proofs.Words.{not, is_some, unwrap_or, stored_of, with_parcels, store_after, FullCell, Answer, Command, Msg, switch_node, Phase, MoveState}
 use Rattle.nf_net.proofs.Words.{Store, row_in, answer_of, CopyPhase, SharePhase, CopyState, ShareState, home, others, Operation, Move, Copy, Share, turn_of}
-use Rattle.nf_net.proofs.Words.{serving_of, are_quiet, ControllerState, controller_step, weigh-append, split}
+use Rattle.nf_net.proofs.Words.{serving_of, are_quiet, ControllerState, controller_step, row_fits, weigh-append, split}
 use Rattle.std.specs.FinMap as finite
 use Rattle.move_op.specs.Phases as phase
 use Rattle.copy_share.specs.Copy as copy
@@ -183,7 +183,7 @@ module _ (o : ℕ) where
     begun_weighs x sends (Is_share plan is does) = rw (is, does) (omega arith)
 
     row_falls : (port : ℕ) (m : Msg) → Falls c m (ctrl.row c port m)
-    row_falls = row_opens c (Falls c) (record {
+    row_falls = row_fits c (Falls c) (record {
       still = still_falls;
       ended = omega arith;
       stopped = λ i. omega arith;
@@ -191,7 +191,7 @@ module _ (o : ℕ) where
       handed = handed_falls;
       queued = queued_falls;
       answers = λ k op answer. omega arith;
-      opens = λ k op x sends is. opens_falls k op x sends (begun_weighs x sends is);
+      begins = row_opens c (Falls c) (λ k op x sends is. opens_falls k op x sends (begun_weighs x sends is));
     })
 
     -- each step of the controller

@@ -1,7 +1,7 @@
 -- What the controller sends and keeps as it takes a message weighs no more than the message and what it kept before: each move asks its source once.
 use Rattle.nf_net.proofs.Words.{◌≡◌, ℕ, ◌+◌, ◌≤◌, true, Option, None, Some, List, [], ◌∷◌, ◌++◌, refl, arith, if◌then◌else◌, stored_of, with_parcels}
 use Rattle.nf_net.proofs.Words.{store_after, FullCell, Answer, Command, Msg, switch_node, Store, row_in, answer_of, Operation, Move, Copy, Share, turn_of}
-use Rattle.nf_net.proofs.Words.{serving_of, ControllerState, controller_step, weigh, split}
+use Rattle.nf_net.proofs.Words.{serving_of, ControllerState, controller_step, row_fits, weigh, split}
 use Rattle.std.specs.FinMap as finite
 use Rattle.copy_share.specs.Copy as copy
 use Rattle.copy_share.specs.Share as share
@@ -110,7 +110,7 @@ module _ (a k : ℕ) where
     begun_uses x sends (Is_share plan is does) = rw (is, does) (omega arith)
 
     row_uses : (port : ℕ) (m : Msg) → UsesNoMore c m (ctrl.row c port m)
-    row_uses = row_opens c (UsesNoMore c) (record {
+    row_uses = row_fits c (UsesNoMore c) (record {
       still = λ m. omega arith;
       ended = omega arith;
       stopped = λ i. omega arith;
@@ -118,7 +118,7 @@ module _ (a k : ℕ) where
       handed = handed_falls;
       queued = queued_falls;
       answers = λ x op answer. omega arith;
-      opens = λ x op new sends is. opens_falls x op new sends (begun_uses new sends is);
+      begins = row_opens c (UsesNoMore c) (λ x op new sends is. opens_falls x op new sends (begun_uses new sends is));
     })
 
     -- each step of the controller

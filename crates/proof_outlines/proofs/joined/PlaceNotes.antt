@@ -121,7 +121,9 @@ controller_uninstalled s port m = row_fits s (λ _ did. AreUninstalled did.notes
   handed = handed_quiet s;
   queued = λ op cell. tt;
   answers = λ k op answer. (refl, tt);
-  moves = λ k op from to filter keep. (refl, tt);
-  copies = λ k op from to filter. (refl, tt);
-  shares = λ k op filter home others. (refl, tt);
+  begins = record {
+    moves = λ k op from to filter keep. (refl, tt);
+    copies = λ k op from to filter. (refl, tt);
+    shares = λ k op filter home others. (refl, tt);
+  };
 }) port m

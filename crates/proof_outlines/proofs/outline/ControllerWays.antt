@@ -45,6 +45,15 @@ module _ (c : ControllerState) (Allows : Msg → Step → Type 0) where
   abbrev share_plan : ℕ → Filter → ℕ → List ℕ → SharePlan
   share_plan op filter home others = record { op = op; members = home ∷ others; filter = filter; site = c.site }
 
+  -- a command that begins: a move, a copy, or a share
+  pub record Beginnings : Type 0 where
+    pub moves : (k : Command) (op from to : ℕ) (filter : Filter) (keep : Bool)
+        → Allows (Msg.Asked k) (ctrl.move_begin c (record { op = op; from = from; to = to; filter = filter; keep = keep }))
+    pub copies : (k : Command) (op from to : ℕ) (filter : Option Filter)
+        → Allows (Msg.Asked k) (ctrl.copy_begin c (record { op = op; from = from; to = to; filter = filter }))
+    pub shares : (k : Command) (op : ℕ) (filter : Filter) (home : ℕ) (others : List ℕ) → Allows (Msg.Asked k)
+        (ctrl.opening_step c op (Share (share.share_at_start (share_plan op filter home others))) (share.begin_sends (share_plan op filter home others)))
+
   -- nothing, the end, a final message, an event that goes back, a message or a packet of an open operation, and a command that is answered or begins
   pub record WaysOfController : Type 0 where
     pub still : (m : Msg) → Allows m (ctrl.still c)
@@ -55,12 +64,7 @@ module _ (c : ControllerState) (Allows : Msg → Step → Type 0) where
     pub handed : (op port : ℕ) (m : Msg) → Allows m (ctrl.hand_step c op port m)
     pub queued : (op : ℕ) (cell : FullCell) → Allows (Msg.Diverted cell) (ctrl.queue_step c cell (Some op))
     pub answers : (k : Command) (op : ℕ) (answer : Answer) → Allows (Msg.Asked k) (ctrl.answers c op answer)
-    pub moves : (k : Command) (op from to : ℕ) (filter : Filter) (keep : Bool)
-        → Allows (Msg.Asked k) (ctrl.move_begin c (record { op = op; from = from; to = to; filter = filter; keep = keep }))
-    pub copies : (k : Command) (op from to : ℕ) (filter : Option Filter)
-        → Allows (Msg.Asked k) (ctrl.copy_begin c (record { op = op; from = from; to = to; filter = filter }))
-    pub shares : (k : Command) (op : ℕ) (filter : Filter) (home : ℕ) (others : List ℕ) → Allows (Msg.Asked k)
-        (ctrl.opening_step c op (Share (share.share_at_start (share_plan op filter home others))) (share.begin_sends (share_plan op filter home others)))
+    pub begins : Beginnings
 
   module _ (ways : WaysOfController) where
     by_share : (cell : FullCell) (o : Option ℕ) → Allows (Msg.Diverted cell) (ctrl.queue_step c cell o)
@@ -71,20 +75,20 @@ module _ (c : ControllerState) (Allows : Msg → Step → Type 0) where
     by_order k op (Order.Move source destination filter keep) = between (place_of c.names source) (place_of c.names destination)
       where
         between : (from to : Option ℕ) → Allows (Msg.Asked k) (ctrl.move_between c op filter keep from to)
-        between (Some from) (Some to) = ways.moves k op from to filter keep
+        between (Some from) (Some to) = ways.begins.moves k op from to filter keep
         between (Some from) None = ways.still (Msg.Asked k)
         between None to = ways.still (Msg.Asked k)
     by_order k op (Order.Copy source destination filter) = between (place_of c.names source) (place_of c.names destination)
       where
         between : (from to : Option ℕ) → Allows (Msg.Asked k) (ctrl.copy_between c op filter from to)
-        between (Some from) (Some to) = ways.copies k op from to filter
+        between (Some from) (Some to) = ways.begins.copies k op from to filter
         between (Some from) None = ways.still (Msg.Asked k)
         between None to = ways.still (Msg.Asked k)
     by_order k op (Order.Share members filter) = among (filter_map (place_of c.names) members)
       where
         among : (places : List ℕ) → Allows (Msg.Asked k) (ctrl.share_begin c op filter places)
         among [] = ways.still (Msg.Asked k)
-        among (home ∷ others) = ways.shares k op filter home others
+        among (home ∷ others) = ways.begins.shares k op filter home others
 
     by_refusal : (k : Command) (op : ℕ) (what : Order) (o : Option Answer) → Allows (Msg.Asked k) (ctrl.decision_step c op what o)
     by_refusal k op what (Some answer) = ways.answers k op answer
