@@ -6,7 +6,7 @@ use Rattle.nf_net.proofs.Words.{Order, Msg, instance_node, Carry, Event, Fence_t
 use Rattle.nf_net.proofs.Words.{events_in, is_known, seen, MoveAsked, Seeing, frame, Any, New, WantShare, S_asked, S_shared, EachNew, olds, OpenShare, NoShare}
 use Rattle.nf_net.proofs.Words.{passed_in, carried_in, forwarded_in, handed_over_in, diverted_in, number, want_of, asked_of, want_share_of, Given, place, S}
 use Rattle.nf_net.proofs.Words.{shown, Label, FromSwitch, ToSwitch, ToController, Unit, split}
-use Rattle.proof_machines.proofs.unit.Machine.{Item, Pass, Fence, Forward}
+use Rattle.proof_machines.proofs.unit.Machine.{Item, Pass, Forward}
 use Rattle.actor_net.proofs.WeightLaws.{Each}
 use Rattle.proof_machines.proofs.unit.NetViews.{items}
 use Rattle.proof_machines.proofs.unit.Path.{carries, forwards}
@@ -66,6 +66,20 @@ module _ {R : Type 0} (f : Semantics R) (g : Given) (z : Seeing) (es : List Open
     event : filter mine (handed_over_in m) ≡ events_in (add o [])
     forward : is_known (add o []) ≡ true → filter mine (forwarded_in m) ≡ forwards (add o [])
 
+  -- packets by their kinds
+  abbrev Packets : Type 0
+  Packets = List ℕ × List ℕ × List ℕ × List ℕ
+
+  -- a message without packets, of which no packet is seen
+  quiet : {m : Msg} {o : Option (Item R)} → ◌≡◌ {A = Packets} (passed_in m, carried_in m, handed_over_in m, forwarded_in m) ([], [], [], [])
+      → ◌≡◌ {A = Packets} (passes_in (add o []), carries (add o []), events_in (add o []), forwards (add o [])) ([], [], [], []) → IsRead m o
+  quiet none unseen = record {
+    pass = ap (λ (l : Packets). filter mine l.0) none ∙ sym (ap (λ (l : Packets). l.0) unseen);
+    carry = ap (λ (l : Packets). filter mine l.1) none ∙ sym (ap (λ (l : Packets). l.1) unseen);
+    event = ap (λ (l : Packets). filter mine l.2) none ∙ sym (ap (λ (l : Packets). l.2) unseen);
+    forward = λ _. ap (λ (l : Packets). filter mine l.3) none ∙ sym (ap (λ (l : Packets). l.3) unseen);
+  }
+
   either : (m : Msg) (x : Item R) → IsRead m None → IsRead m (Some x) → (b : Bool) → IsRead m (where_true b x)
   either m x without with_it true = with_it
   either m x without with_it false = without
@@ -101,41 +115,38 @@ module _ {R : Type 0} (f : Semantics R) (g : Given) (z : Seeing) (es : List Open
   fence_read : (op to : ℕ) → IsRead (Msg.FenceTo op to) (Some (sends_to its (instance_node to) (λ w. Fence_to w)))
   fence_read op to = split (instance_node to == its.from)
       (λ a. IsRead (Msg.FenceTo op to) (Some (if a then Fence_to At_a else if instance_node to == its.to then Fence_to At_b else Stray)))
-      (λ _. record { pass = refl; carry = refl; event = refl; forward = λ _. refl })
+      (λ _. quiet refl refl)
       (λ _. split (instance_node to == its.to) (λ b. IsRead (Msg.FenceTo op to) (Some (if b then Fence_to At_b else Stray)))
-      (λ _. record { pass = refl; carry = refl; event = refl; forward = λ _. refl })
-      (λ _. record { pass = refl; carry = refl; event = refl; forward = λ _. refl }))
+      (λ _. quiet refl refl) (λ _. quiet refl refl))
 
   install_read : (op : ℕ) (filter : Filter) (from : ℕ) (to : Target)
       → IsRead (Msg.Install op filter from to) (see_of (shown f g (Msg.Install op filter from to)))
-  install_read op filter from Target.Controller = record { pass = refl; carry = refl; event = refl; forward = λ _. refl }
+  install_read op filter from Target.Controller = quiet refl refl
   install_read op filter from (Target.Instance to) =
       either (Msg.Install op filter from (Target.Instance to)) (if (instance_node from == its.from) && (instance_node to == its.to) then Install else Stray)
-      (record { pass = refl; carry = refl; event = refl; forward = λ _. refl })
-      (split ((instance_node from == its.from) && (instance_node to == its.to))
+      (quiet refl refl) (split ((instance_node from == its.from) && (instance_node to == its.to))
       (λ b. IsRead (Msg.Install op filter from (Target.Instance to)) (Some (if b then Install else Stray)))
-      (λ _. record { pass = refl; carry = refl; event = refl; forward = λ _. refl })
-      (λ _. record { pass = refl; carry = refl; event = refl; forward = λ _. refl })) (op == its.move)
+      (λ _. quiet refl refl) (λ _. quiet refl refl)) (op == its.move)
 
   asked_read : (k : Command) (what : Order) → IsRead (Msg.Asked k) (see_of (asked_of f (place g) k.op what))
   asked_read k (Order.Move src dst filter keep) = by_want (want_of (place g) k.op (Order.Move src dst filter keep))
     where
       by_want : (o : Option MoveAsked) → IsRead (Msg.Asked k) (see_of (option_map (λ want. Old (net.Asked want)) o))
-      by_want None = record { pass = refl; carry = refl; event = refl; forward = λ _. refl }
-      by_want (Some x) = record { pass = refl; carry = refl; event = refl; forward = λ _. refl }
-  asked_read k (Order.Copy src dst filter) = record { pass = refl; carry = refl; event = refl; forward = λ _. refl }
+      by_want None = quiet refl refl
+      by_want (Some x) = quiet refl refl
+  asked_read k (Order.Copy src dst filter) = quiet refl refl
   asked_read k (Order.Share members filter) = by_want (want_share_of (place g) k.op (Order.Share members filter))
     where
       by_want : (o : Option WantShare) → IsRead (Msg.Asked k) (see_of (option_map (λ want. New (S_asked want)) o))
-      by_want None = record { pass = refl; carry = refl; event = refl; forward = λ _. refl }
-      by_want (Some x) = record { pass = refl; carry = refl; event = refl; forward = λ _. refl }
+      by_want None = quiet refl refl
+      by_want (Some x) = quiet refl refl
 
   chunk_read : (op : ℕ) (chunk : Chunk) → IsRead (Msg.Shared op chunk) (see_of (shown f g (Msg.Shared op chunk)))
   chunk_read op chunk = by_entry (spelled f chunk)
     where
       by_entry : (o : Option (Unit × R)) → IsRead (Msg.Shared op chunk) (see_of (option_map (λ entry. New (S_shared op entry)) o))
-      by_entry None = record { pass = refl; carry = refl; event = refl; forward = λ _. refl }
-      by_entry (Some x) = record { pass = refl; carry = refl; event = refl; forward = λ _. refl }
+      by_entry None = quiet refl refl
+      by_entry (Some x) = quiet refl refl
 
   -- of a message of a run
   msg_read : (s r : ℕ) (m : Msg) → Label f g s r m → NotShared (shown f g m) → IsRead m (see_of (shown f g m))
@@ -149,37 +160,24 @@ module _ {R : Type 0} (f : Semantics R) (g : Given) (z : Seeing) (es : List Open
       let off : mine (number cell) ≡ false = k in record { pass = refl; carry = refl; event = refl; forward = λ _. rw off refl }
   msg_read s r (Msg.Event op cell) l k = event_read op cell
   msg_read s r (Msg.FenceTo op to) l k = either (Msg.FenceTo op to) (sends_to its (instance_node to) (λ w. Fence_to w))
-      (record { pass = refl; carry = refl; event = refl; forward = λ _. refl }) (fence_read op to) (op == its.move)
+      (quiet refl refl) (fence_read op to) (op == its.move)
   msg_read s r (Msg.Install op filter from to) l k = install_read op filter from to
   msg_read s r (Msg.Asked c) l k = asked_read c c.what
   msg_read s r (Msg.Shared op chunk) l k = chunk_read op chunk
-  msg_read s r (Msg.Fence op) l k = either (Msg.Fence op) Fence (record { pass = refl; carry = refl; event = refl; forward = λ _. refl })
-      (record { pass = refl; carry = refl; event = refl; forward = λ _. refl }) (op == its.move)
-  msg_read s r (Msg.Enable op filter action) l k = either _ _ (record { pass = refl; carry = refl; event = refl; forward = λ _. refl })
-      (record { pass = refl; carry = refl; event = refl; forward = λ _. refl }) (op == its.move)
-  msg_read s r (Msg.Stream op filter) l k = either _ _ (record { pass = refl; carry = refl; event = refl; forward = λ _. refl })
-      (record { pass = refl; carry = refl; event = refl; forward = λ _. refl }) (op == its.move)
-  msg_read s r (Msg.Delete op gone) l k = either _ _ (record { pass = refl; carry = refl; event = refl; forward = λ _. refl })
-      (record { pass = refl; carry = refl; event = refl; forward = λ _. refl }) (op == its.move)
-  msg_read s r (Msg.Put op piece first) l k = either _ _ (record { pass = refl; carry = refl; event = refl; forward = λ _. refl })
-      (record { pass = refl; carry = refl; event = refl; forward = λ _. refl }) (op == its.move)
-  msg_read s r (Msg.Restore op chunks) l k = either _ _ (record { pass = refl; carry = refl; event = refl; forward = λ _. refl })
-      (record { pass = refl; carry = refl; event = refl; forward = λ _. refl }) (op == its.move)
-  msg_read s r (Msg.Enabled op) l k = either _ _ (record { pass = refl; carry = refl; event = refl; forward = λ _. refl })
-      (record { pass = refl; carry = refl; event = refl; forward = λ _. refl }) (op == its.move)
-  msg_read s r (Msg.Piece op piece) l k = either _ _ (record { pass = refl; carry = refl; event = refl; forward = λ _. refl })
-      (record { pass = refl; carry = refl; event = refl; forward = λ _. refl }) (op == its.move)
-  msg_read s r (Msg.Deleted op) l k = either _ _ (record { pass = refl; carry = refl; event = refl; forward = λ _. refl })
-      (record { pass = refl; carry = refl; event = refl; forward = λ _. refl }) (op == its.move)
-  msg_read s r (Msg.PutOk op) l k = either _ _ (record { pass = refl; carry = refl; event = refl; forward = λ _. refl })
-      (record { pass = refl; carry = refl; event = refl; forward = λ _. refl }) (op == its.move)
-  msg_read s r (Msg.PutNo op refused) l k = either _ _ (record { pass = refl; carry = refl; event = refl; forward = λ _. refl })
-      (record { pass = refl; carry = refl; event = refl; forward = λ _. refl }) (op == its.move)
-  msg_read s r (Msg.Restored op) l k = either _ _ (record { pass = refl; carry = refl; event = refl; forward = λ _. refl })
-      (record { pass = refl; carry = refl; event = refl; forward = λ _. refl }) (op == its.move)
-  msg_read s r (Msg.Fenced op) l k = either _ _ (record { pass = refl; carry = refl; event = refl; forward = λ _. refl })
-      (record { pass = refl; carry = refl; event = refl; forward = λ _. refl }) (op == its.move)
-  msg_read s r m l k = record { pass = refl; carry = refl; event = refl; forward = λ _. refl }
+  msg_read s r (Msg.Fence op) l k = either _ _ (quiet refl refl) (quiet refl refl) (op == its.move)
+  msg_read s r (Msg.Enable op filter action) l k = either _ _ (quiet refl refl) (quiet refl refl) (op == its.move)
+  msg_read s r (Msg.Stream op filter) l k = either _ _ (quiet refl refl) (quiet refl refl) (op == its.move)
+  msg_read s r (Msg.Delete op gone) l k = either _ _ (quiet refl refl) (quiet refl refl) (op == its.move)
+  msg_read s r (Msg.Put op piece first) l k = either _ _ (quiet refl refl) (quiet refl refl) (op == its.move)
+  msg_read s r (Msg.Restore op chunks) l k = either _ _ (quiet refl refl) (quiet refl refl) (op == its.move)
+  msg_read s r (Msg.Enabled op) l k = either _ _ (quiet refl refl) (quiet refl refl) (op == its.move)
+  msg_read s r (Msg.Piece op piece) l k = either _ _ (quiet refl refl) (quiet refl refl) (op == its.move)
+  msg_read s r (Msg.Deleted op) l k = either _ _ (quiet refl refl) (quiet refl refl) (op == its.move)
+  msg_read s r (Msg.PutOk op) l k = either _ _ (quiet refl refl) (quiet refl refl) (op == its.move)
+  msg_read s r (Msg.PutNo op refused) l k = either _ _ (quiet refl refl) (quiet refl refl) (op == its.move)
+  msg_read s r (Msg.Restored op) l k = either _ _ (quiet refl refl) (quiet refl refl) (op == its.move)
+  msg_read s r (Msg.Fenced op) l k = either _ _ (quiet refl refl) (quiet refl refl) (op == its.move)
+  msg_read s r m l k = quiet refl refl
 
   -- no packet of it goes to the controller
   msg_diverts : (m : Msg) → NotShared (shown f g m) → filter mine (diverted_in m) ≡ []
