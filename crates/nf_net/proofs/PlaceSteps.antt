@@ -130,15 +130,6 @@ module _ {F R : Type 0} (f : Semantics R) (laws : FunctionLaws f) (c : Config) (
     abbrev own : InstanceState F R
     own = j.nodes.instance k
 
-    not_first : (k == 0) ≡ false
-    not_first = grind (arith, nat_tests)
-
-    not_second : (k == 1) ≡ false
-    not_second = grind (arith, nat_tests)
-
-    not_input : (p == 0) && (k == 0) ≡ false
-    not_input = grind (arith, nat_tests)
-
     abbrev at : IsInstanceAt f g k own j.world
     at = j.shown_is.instances k (omega arith) taken.receiver
 
@@ -171,7 +162,8 @@ module _ {F R : Type 0} (f : Semantics R) (laws : FunctionLaws f) (c : Config) (
       one (Unseen none) = absurd (none_there there.front there.back (sym none ∙ there.whole))
       one (Seen a shown_as ran) = processes_one (S f g) (A f g) (is_sys f g.site g.packet) (unit_numbered c items f.kind number)
           (is_sharing f g.site g.packet) j.world (came_by f g w.log (unit_numbered c items f.kind number)) j.shown_is.every.global p k a taken.rest
-          not_first not_second (taken.head not_input a shown_as) number (same_unit_equiv.refl (unit_numbered c items f.kind number)) there.front there.back
+          (grind (arith, nat_tests)) (grind (arith, nat_tests)) (taken.head (grind (arith, nat_tests)) a shown_as) number
+          (same_unit_equiv.refl (unit_numbered c items f.kind number)) there.front there.back
           (sym (follows a) ∙ sym ran ∙ there.whole) (j.shown_is.every.unit (unit_numbered c items f.kind number))
 
       pub processed_place : IsPlace (job_of f c items) number (w.log ++ front) i

@@ -149,12 +149,6 @@ module _ {F R : Type 0} (f : Semantics R) (laws : FunctionLaws f) (c : Config) (
         abbrev notes : List Note
         notes = (instance_step f own message).notes
 
-        not_first : (k == 0) ≡ false
-        not_first = grind (arith, nat_tests)
-
-        not_second : (k == 1) ≡ false
-        not_second = grind (arith, nat_tests)
-
         not_input : (p == 0) && (k == 0) ≡ false
         not_input = grind (arith, nat_tests)
 
@@ -183,7 +177,8 @@ module _ {F R : Type 0} (f : Semantics R) (laws : FunctionLaws f) (c : Config) (
               → k ≡ is_open.e.op.src
           by_seen (Old a) waits ran =
               at_source (S f g) (is_sys f g.site g.packet) (moves_of (S f g) (A f g) j.world) op is_open.e is_open.found is_early_there u takes_it _ _
-              where_is route p k a (olds is_taken.rest) not_first not_second (ap olds waits) (subst (λ v. none_mine (S f g) u v ≢ []) ran some)
+              where_is route p k a (olds is_taken.rest) (grind (arith, nat_tests)) (grind (arith, nat_tests)) (ap olds waits)
+              (subst (λ v. none_mine (S f g) u v ≢ []) ran some)
           by_seen (New m) waits ran = absurd (not_shared m waits (subst (λ v. none_mine (S f g) u v ≢ []) ran some) (j.shown_is.every.unit u))
 
           node_is : RanAs f laws g (all_fit f c items is) own message → k ≡ is_open.e.op.src
