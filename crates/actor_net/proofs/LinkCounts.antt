@@ -184,72 +184,73 @@ counts_none M n few = record {
   whole = sym (none_at_all M n n);
 }
 
-module _ {M : Type 0} (ls : List (List M)) (counts : List ℕ) (all place : ℕ) (c : Choice) (old new : List M) where
+-- a table of these lists and counts
+abbrev table : {M : Type 0} → List (List M) → List ℕ → LinkLists M
+table ls counts = record { nodes = length counts; lists = ls }
+
+-- a link of a table, as code reads it: its place, and the list that stands there
+pub record IsRead {M : Type 0} (ls : List (List M)) (counts : List ℕ) (all place : ℕ) (c : Choice) (old : List M) : Type 0 where
+  pub are : AreCounts (table ls counts) counts all
+  pub within : IsWithin (length counts) c
+  pub place_is : place ≡ c.port * length counts + c.node
+  pub old_is : old ≡ get_or ls place old
+
+module _ {M : Type 0} {ls : List (List M)} {counts : List ℕ} {all place : ℕ} {c : Choice} {old : List M} (r : IsRead ls counts all place c old) where
   abbrev now : LinkLists M
-  now = record { nodes = length counts; lists = ls }
+  now = table ls counts
 
-  abbrev counted : ℕ → LinkLists M
-  counted value = record { nodes = length (set counts c.node value); lists = set ls place new }
-
-  -- a link of a table, as code reads it: its place, and the list that stands there
-  pub record IsRead : Type 0 where
-    pub are : AreCounts now counts all
-    pub within : IsWithin (length counts) c
-    pub place_is : place ≡ c.port * length counts + c.node
-    pub old_is : old ≡ get_or ls place old
-
-  read_list : IsRead → link_of now c ≡ old
-  read_list r =
+  read_list : link_of now c ≡ old
+  read_list =
       let within = r.within in
       let small : c.port * length counts + c.node < length ls = rw r.are.square (inside (length counts) c.port c.node within.sender within.receiver) in
       let place = r.place_is in
       get_or_default ls (c.port * length counts + c.node) [] old small ∙ ap (λ i. get_or ls i old) (sym place) ∙ sym r.old_is
 
-  held_some : IsRead → one_if_held old ≤ held_below now c.node (length counts)
-  held_some r =
+  held_some : one_if_held old ≤ held_below now c.node (length counts)
+  held_some =
       let with : one_if_held (link_of now c) ≤ held_below now c.node (length counts) = held_with now c.node (length counts) c.port r.within.sender in
-      omega (arith, with, ap one_if_held (read_list r))
+      omega (arith, with, ap one_if_held read_list)
 
-  pub some_in_all : IsRead → one_if_held old ≤ all
-  some_in_all r =
+  pub some_in_all : one_if_held old ≤ all
+  some_in_all =
       let with = all_with now (length counts) c.node r.within.receiver in
-      omega (arith, with, held_some r, r.are.whole)
+      omega (arith, with, held_some, r.are.whole)
 
-  pub few_in_all : IsRead → all ≤ 255 * 255
-  few_in_all r =
+  pub few_in_all : all ≤ 255 * 255
+  few_in_all =
       let few = r.are.few in
       let most : length counts * length counts ≤ 255 * 255 = grind arith in
       omega (arith, all_most now (length counts), r.are.whole, most)
 
-  pub counted_still : IsRead → one_if_held old ≡ one_if_held new → AreCounts (record { nodes = length counts; lists = set ls place new }) counts all
-  counted_still r same =
+  pub counted_still : (new : List M) → one_if_held old ≡ one_if_held new → AreCounts (table (set ls place new) counts) counts all
+  counted_still new same =
       let place' = r.place_is in
-      rw place' (counts_stay now c new r.are.square r.within counts all refl r.are (ap one_if_held (read_list r) ∙ same))
+      rw place' (counts_stay now c new r.are.square r.within counts all refl r.are (ap one_if_held read_list ∙ same))
 
   -- the count of its receiver
   module _ (count : ℕ) (count_is : count ≡ get_or counts c.node count) where
-    read_count : IsRead → count ≡ held_below now c.node (length counts)
-    read_count r = count_is ∙ get_or_default counts c.node count 0 r.within.receiver ∙ r.are.each c.node r.within.receiver
+    read_count : count ≡ held_below now c.node (length counts)
+    read_count = count_is ∙ get_or_default counts c.node count 0 r.within.receiver ∙ r.are.each c.node r.within.receiver
 
-    pub some_counted : IsRead → one_if_held old ≤ count
-    some_counted r = omega (arith, held_some r, read_count r)
+    pub some_counted : one_if_held old ≤ count
+    some_counted = omega (arith, held_some, read_count)
 
-    pub room_for_one : IsRead → one_if_held old ≡ 0 → count + 1 < 2 ^ 8
-    room_for_one r none =
+    pub room_for_one : one_if_held old ≡ 0 → count + 1 < 2 ^ 8
+    room_for_one none =
         let room : held_below now c.node (length counts) < length counts = held_room now c.node (length counts) c.port r.within.sender
-        (ap one_if_held (read_list r) ∙ none) in
-        omega (arith, room, read_count r, r.are.few)
+        (ap one_if_held read_list ∙ none) in
+        omega (arith, room, read_count, r.are.few)
 
-    pub counted_anew : (value all' : ℕ) → IsRead → value + one_if_held old ≡ count + one_if_held new → all' + one_if_held old ≡ all + one_if_held new
-        → AreCounts (counted value) (set counts c.node value) all'
-    counted_anew value all' r own whole =
+    pub counted_anew : (new : List M) (value all' : ℕ) → value + one_if_held old ≡ count + one_if_held new
+        → all' + one_if_held old ≡ all + one_if_held new
+        → AreCounts (table (set ls place new) (set counts c.node value)) (set counts c.node value) all'
+    counted_anew new value all' own whole =
         let within = r.within in
-        let list = read_list r in
         let was = count_is ∙ get_or_default counts c.node count 0 within.receiver in
         let count' : length (set counts c.node value) ≡ length counts = length-set counts c.node value in
         let place' = r.place_is in
-        rw (count', place') (counts_after now c new r.are.square within counts all value all' refl r.are (omega (arith, own, was, ap one_if_held list))
-        (omega (arith, whole, ap one_if_held list)))
+        rw (count', place') (counts_after now c new r.are.square within counts all value all' refl r.are (omega (arith, own, was, ap one_if_held read_list))
+        (omega (arith, whole, ap one_if_held read_list)))
 
 -- the links of a world
 abbrev pub links_of : {A M N : Type 0} → Network A M N → LinkLists M
