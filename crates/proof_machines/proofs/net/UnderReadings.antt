@@ -79,18 +79,34 @@ module _ {R : Type 0} (S : Sys R) (A : Sharing S) (z : SeeingShare) (w : WholeWo
     member : (it : Item R) (its : List (Item R)) → its ≡ it ∷ left → (has z.members y ≡ false → its ≡ []) → has z.members y ≡ true
     member it its head out = true_from_ne_false (has z.members y) (λ e. let never : it ∷ left ≡ [] = sym head ∙ out e in cc)
 
-    by_link : (it : Item R) → Has_run (Some it) → ((shape f u.stage).sw y ≡ it ∷ left) × (p ≡ 0) ⊎ ((shape f u.stage).to y ≡ it ∷ left) × (p ≡ 1) → FreshAt
+    abbrev IsFirst : Item R → Type 0
+    IsFirst it = ((shape f u.stage).sw y ≡ it ∷ left) × (p ≡ 0) ⊎ ((shape f u.stage).to y ≡ it ∷ left) × (p ≡ 1)
+
+    -- the item of which it processes something stands first on a link to it
+    pub record FirstItem : Type 0 where
+      pub item : Item R
+      pub seen : share_seen S A z y m ≡ Some item
+      pub processes : Has_run (Some item)
+      pub first : IsFirst item
+
+    by_item : (o : Option (Item R)) → share_seen S A z y m ≡ o → Has_run o → add o left ≡ share_expect (shape f u.stage) p y → FirstItem
+    by_item None is r e = absurd (r refl)
+    by_item (Some it) is r e =
+        let first = inst_from S A laws z w (shape f u.stage) u.holds (to_members f u.is u.stage u.fits) y p m rest y0 y1 waits it e in
+        record { item = it; seen = is; processes = r; first = first }
+
+    pub first_item : FirstItem
+    first_item =
+        by_item (share_seen S A z y m) refl ran (heads S A laws z w (shape f u.stage) u.holds (to_members f u.is u.stage u.fits) y p m rest y0 y1 waits)
+
+    by_link : (it : Item R) → Has_run (Some it) → IsFirst it → FreshAt
     by_link it r (inl a) = fresh_by it (member it ((shape f u.stage).sw y) a.0 ((to_members f u.is u.stage u.fits).sw y)) r (meets_sw f u.stage y it left a.0)
     by_link it r (inr a) =
         let inside = member it ((shape f u.stage).to y) a.0 ((to_members f u.is u.stage u.fits).to y) in
         fresh_by it inside r (meets_to f u.stage u.fits y inside it left a.0)
 
-    by_item : (o : Option (Item R)) → Has_run o → add o left ≡ share_expect (shape f u.stage) p y → FreshAt
-    by_item None r e = absurd (r refl)
-    by_item (Some it) r e = by_link it r (inst_from S A laws z w (shape f u.stage) u.holds (to_members f u.is u.stage u.fits) y p m rest y0 y1 waits it e)
-
     pub under_fresh : FreshAt
-    under_fresh = by_item (share_seen S A z y m) ran (heads S A laws z w (shape f u.stage) u.holds (to_members f u.is u.stage u.fits) y p m rest y0 y1 waits)
+    under_fresh = by_link first_item.item first_item.processes first_item.first
 
   -- With no message on the links between the first nodes, among them the members, the share is idle and no packet waits
   pub under_rests : (n : ℕ) → 2 ≤ n → ((k : ℕ) → has z.members k ≡ true → k < n)
