@@ -1,8 +1,8 @@
 -- Where an instance processes packets of a unit, the record that it steps is the fold of all that was done of the unit before: by a message of a move its
 -- live record, also where a share has the unit, and by one of a share the record in the table that the message names.
-use Rattle.nf_net.proofs.Words.{◌≡◌, ◌≢◌, ℕ, Bool, true, false, Option, Some, None, List, [], ◌∷◌, ◌⊎◌, inl, inr, refl, ap, ◌∙◌, if◌then◌else◌, ◌==◌}
-use Rattle.nf_net.proofs.Words.{Decides-eqb, M_fenced, M_install, M_fence_to, where_true, add, UnitShare, shape, to_members, Sys, IsSys, inst_step, none_mine}
-use Rattle.nf_net.proofs.Words.{done_u, GlobalAll, share_expect, unit_share, share_seen, share_items, own_at, does, heads, inst_from, Under, inst_keeps, seeing}
+use Rattle.nf_net.proofs.Words.{◌≡◌, ◌≢◌, ℕ, Bool, true, false, Option, Some, None, List, [], ◌∷◌, inl, inr, refl, ap, ◌∙◌, if◌then◌else◌, ◌==◌}
+use Rattle.nf_net.proofs.Words.{Decides-eqb, M_fenced, M_install, M_fence_to, where_true, UnitShare, Sys, IsSys, inst_step, none_mine}
+use Rattle.nf_net.proofs.Words.{done_u, GlobalAll, unit_share, share_seen, own_at, does, Under, seeing}
 use Rattle.nf_net.proofs.Words.{Any, olds, Sharing, IsSharing, WantShare, WholeWorld, moves_of, ran_of, SeeingShare, Came, WhereAll, Apart_from_shares}
 use Rattle.nf_net.proofs.Words.{Under_share, processed_where, same_unit, Unit, split}
 use Rattle.proof_machines.proofs.unit.Real
@@ -11,7 +11,7 @@ use Rattle.proof_machines.proofs.share.Heads.{Meets, meets_sw, meets_to}
 use Rattle.proof_machines.proofs.net.Net.{Msg, Msg.In_packet, Msg.Asked, Msg.Carry_on, Msg.Pass_on, Msg.Fence_on, Msg.Mv, at_node}
 use Rattle.proof_machines.proofs.net.Readings.{fold}
 use Rattle.proof_machines.proofs.net.ShareViews.{mine, move_seen, old_seen}
-use Rattle.proof_machines.proofs.net.UnderReadings.{FreshAt, under_fresh}
+use Rattle.proof_machines.proofs.net.UnderReadings.{FreshAt, first_item, under_fresh}
 use Rattle.proof_machines.proofs.net.Shares.{Any.Old, Any.New, ShareMsg.Shared_on}
 use Rattle.proof_machines.proofs.whole.Readings.{fold_done}
 use Rattle.proof_machines.proofs.whole.FrontSteps.{table_seen}
@@ -59,36 +59,24 @@ module _ {R : Type 0} (S : Sys R) (A : Sharing S) (laws : IsSys S) (u : Unit) wh
         abbrev f : UnitShare R
         f = unit_share S A z
 
-        abbrev left : List (Item R)
-        left = share_items S A z y rest
-
         own_fresh : FreshAt S A z w before since h laws ok g y p (Old m) rest y0 y1 waits some_ran
         own_fresh = under_fresh S A z w before since h laws ok g y p (Old m) rest y0 y1 waits some_ran
 
         abbrev Has_run : Option (Item R) → Type 0
         Has_run o = (does S A laws z y (own_at S A z w y) o).ran ≢ []
 
-        has_run : Has_run (share_seen S A z y (Old m))
-        has_run none = some_ran ((inst_keeps S A z laws ok w before since g h y p y0 y1 (Old m) rest waits).sees.ran ∙ none)
-
         meets_home : (it : Item R) → share_seen S A z y (Old m) ≡ Some it → Has_run (Some it) → Meets f h.stage y it → y ≡ x.home
         meets_home (Carry q) e r n = n.0
         meets_home (Shared q) e r n = absurd (old_unshared z m q e)
         meets_home it e r n = absurd (r refl)
 
-        by_link : (it : Item R) → share_seen S A z y (Old m) ≡ Some it → Has_run (Some it)
-            → ((shape f h.stage).sw y ≡ it ∷ left) × (p ≡ 0) ⊎ ((shape f h.stage).to y ≡ it ∷ left) × (p ≡ 1) → y ≡ x.home
-        by_link it e r (inl a) = meets_home it e r (meets_sw f h.stage y it left a.0)
-        by_link it e r (inr a) = meets_home it e r (meets_to f h.stage h.fits y own_fresh.inside it left a.0)
-
-        by_item : (o : Option (Item R)) → share_seen S A z y (Old m) ≡ o → Has_run o → add o left ≡ share_expect (shape f h.stage) p y → y ≡ x.home
-        by_item None e r a = absurd (r refl)
-        by_item (Some it) e r a =
-            by_link it e r (inst_from S A laws z w (shape f h.stage) h.holds (to_members f h.is h.stage h.fits) y p (Old m) rest y0 y1 waits it a)
-
         at_home : y ≡ x.home
-        at_home = by_item (share_seen S A z y (Old m)) refl has_run
-            (heads S A laws z w (shape f h.stage) h.holds (to_members f h.is h.stage h.fits) y p (Old m) rest y0 y1 waits)
+        at_home =
+            let one = first_item S A z w before since h laws ok g y p (Old m) rest y0 y1 waits some_ran in
+            meets_home one.item one.seen one.processes (elim one.first as (λ _. Meets f h.stage y one.item) [
+              | inl a ↦ meets_sw f h.stage y one.item _ a.0
+              | inr a ↦ meets_to f h.stage h.fits y own_fresh.inside one.item _ a.0
+            ])
 
         fresh_home : S.B.at u (w.inst y).live ≡ runs S.F None (ran_of S A u w.done)
         fresh_home = home_own ((Decides-eqb y x.home).1 at_home) own_fresh.own

@@ -1,8 +1,8 @@
 -- Where one packet of a unit that a share has is processed: at its member, if it came while the unit's packets were diverted, and else at home.
-use Rattle.nf_net.proofs.Words.{◌≡◌, ◌≢◌, ℕ, ◌+◌, ◌≤◌, Bool, true, false, cond, Option, Some, None, List, [], ◌∷◌, ◌++◌, map, ◌⊎◌, inl, inr, refl, sym, ap, ◌∙◌}
-use Rattle.nf_net.proofs.Words.{subst, arith, if◌then◌else◌, ◌&&◌, ◌==◌, nat_tests, Decides-eqb, add, IsOrderedAs, same_of, Ran, UnitShare, Stage, served}
-use Rattle.nf_net.proofs.Words.{shape, to_members, Sys, IsSys, none_mine, GlobalAll, NoShare, head_none, share_expect, unit_share, share_seen, share_items}
-use Rattle.nf_net.proofs.Words.{own_at, does, heads, inst_from, Under, inst_keeps, seeing, Any, ShareMsg, olds, Sharing, IsSharing, OpenShare, WantShare}
+use Rattle.nf_net.proofs.Words.{◌≡◌, ◌≢◌, ℕ, ◌+◌, ◌≤◌, Bool, true, false, cond, List, [], ◌∷◌, ◌++◌, map, ◌⊎◌, inl, inr, refl, sym, ap, ◌∙◌}
+use Rattle.nf_net.proofs.Words.{subst, arith, if◌then◌else◌, ◌&&◌, ◌==◌, nat_tests, Decides-eqb, IsOrderedAs, same_of, Ran, UnitShare, Stage, served}
+use Rattle.nf_net.proofs.Words.{shape, Sys, IsSys, none_mine, GlobalAll, NoShare, head_none, unit_share}
+use Rattle.nf_net.proofs.Words.{Under, seeing, Any, ShareMsg, olds, Sharing, IsSharing, OpenShare, WantShare}
 use Rattle.nf_net.proofs.Words.{member_step, WholeWorld, moves_of, ran_of, SeeingShare, Came, WhereAll, Apart_from_shares, Under_share, ItsShare, its_share}
 use Rattle.nf_net.proofs.Words.{ran_by, MayRun, processed_where, same_unit, Stands, In_first, In_second, stands, Unit, split}
 use Rattle.proof_machines.proofs.unit.Stages.{times}
@@ -13,7 +13,7 @@ use Rattle.proof_machines.proofs.share.Order.{Parts, parts}
 use Rattle.proof_machines.proofs.share.Places.{At_places}
 use Rattle.proof_machines.proofs.net.Net.{at_node}
 use Rattle.proof_machines.proofs.net.UnderInst.{did_at}
-use Rattle.proof_machines.proofs.net.UnderReadings.{all_done}
+use Rattle.proof_machines.proofs.net.UnderReadings.{all_done, first_item}
 use Rattle.proof_machines.proofs.net.Shares.{Any.Old, Any.New, ShareMsg.Shared_on, ShareMsg.S_sync}
 use Rattle.proof_machines.proofs.whole.PlacesAll.{Processes, As_moves, At_member, processes_all}
 
@@ -124,29 +124,13 @@ module _ {R : Type 0} (S : Sys R) (A : Sharing S) (laws : IsSys S) (u : Unit) wh
     abbrev z : SeeingShare
     z = seeing S A u x
 
-    abbrev fr : UnitShare R
-    fr = unit_share S A z
-
-    abbrev left : List (Item R)
-    left = share_items S A z y rest
-
-    abbrev Has_run : Option (Item R) → Type 0
-    Has_run o = (does S A laws z y (own_at S A z w y) o).ran ≢ []
-
-    ran : Has_run (share_seen S A z y m)
-    ran none = some ((inst_keeps S A z laws ok w before since g h y p y0 y1 m rest waits).sees.ran ∙ none)
-
-    by_link : (it : Item R) → ((shape fr h.stage).sw y ≡ it ∷ left) × (p ≡ 0) ⊎ ((shape fr h.stage).to y ≡ it ∷ left) × (p ≡ 1) → y ≡ x.home
-    by_link it (inl a) = home_head fr h.stage off y it left a.0
-    by_link it (inr a) = none_to fr h.stage off y it left a.0
-
-    by_item : (o : Option (Item R)) → Has_run o → add o left ≡ share_expect (shape fr h.stage) p y → y ≡ x.home
-    by_item None r e = absurd (r refl)
-    by_item (Some it) r e = by_link it (inst_from S A laws z w (shape fr h.stage) h.holds (to_members fr h.is h.stage h.fits) y p m rest y0 y1 waits it e)
-
     undiverted_home : y ≡ x.home
     undiverted_home =
-        by_item (share_seen S A z y m) ran (heads S A laws z w (shape fr h.stage) h.holds (to_members fr h.is h.stage h.fits) y p m rest y0 y1 waits)
+        let one = first_item S A z w before since h laws ok g y p m rest y0 y1 waits some in
+        elim one.first as (λ _. y ≡ x.home) [
+          | inl a ↦ home_head (unit_share S A z) h.stage off y one.item _ a.0
+          | inr a ↦ none_to (unit_share S A z) h.stage off y one.item _ a.0
+        ]
 
   -- Where an instance processes a packet of the unit: as moves know it, at the home of its share, or at its member while its packets are diverted
   pub data ProcessesOne (w : WholeWorld S A) (y q : ℕ) : Type 0 where
