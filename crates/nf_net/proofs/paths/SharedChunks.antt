@@ -39,7 +39,7 @@ module _ {R : Type 0} (f : Semantics R) (g : Given) (z : SeeingShare) where
   msg_nothing s r m l k = refl
 
   -- What is seen as a record: one that a member gives, or one to take.
-  data IsSource (a : Any R) (it : Item R) : Type 0 where
+  pub data IsSource (a : Any R) (it : Item R) : Type 0 where
     Gives : (n : ℕ) (entry : Unit × R) → a ≡ New (S_shared n entry) → it ≡ Chunk (record_at u (entry ∷ [])) → IsSource a it
     Takes : (n : ℕ) (home : Bool) (cs : List (Unit × R)) → a ≡ New (S_sync n home cs) → it ≡ Sync (record_at u cs) → IsSource a it
 
@@ -155,7 +155,12 @@ module _ {R : Type 0} (f : Semantics R) (g : Given) (z : SeeingShare) where
 
   -- The unit is among those of a link on which the unit sees such an item alone.
   module _ (covered : (S f g).takes z.filter z.unit ≡ true) (s r : ℕ) (of : Msg → List Unit) (it : Item R)
-      (tells : (m : Msg) → Label f g s r m → item_of f g z r (shown f g m) ≡ Some it → is_among (of m) u ≡ true) where
+      (on : is_record it ≡ true)
+      (tells : (m : Msg) → Label f g s r m → (a : Any R) → shown f g m ≡ Some a → IsSource a it → is_among (of m) u ≡ true) where
+    tells_it : (m : Msg) → Label f g s r m → (o : Option (Any R)) → shown f g m ≡ o → item_of f g z r o ≡ Some it → is_among (of m) u ≡ true
+    tells_it m l None is q = cc
+    tells_it m l (Some a) is q = tells m l a is (source r a it on q)
+
     pub among : (ms : List Msg) → EachOn (Label f g s r) ms → view f g z covered r ms ≡ it ∷ [] → is_among (flat_map of ms) u ≡ true
     among [] h e = cc
     among (m ∷ ms) h e = list_any-append (same_unit u) (of m) (flat_map of ms)
@@ -165,31 +170,18 @@ module _ {R : Type 0} (f : Semantics R) (g : Given) (z : SeeingShare) where
             → add o (view f g z covered r ms) ≡ it ∷ [] → is_among (of m) u || is_among (flat_map of ms) u ≡ true
         by_item later None is rest = or_right (is_among (of m) u) (is_among (flat_map of ms) u) (later rest)
         by_item later (Some other) is rest =
-            let same_item : other ≡ it = cc in or_left (is_among (of m) u) (is_among (flat_map of ms) u) (tells m h.0 (is ∙ ap Some same_item))
+            let same_item : other ≡ it = cc in
+            or_left (is_among (of m) u) (is_among (flat_map of ms) u) (tells_it m h.0 (shown f g m) refl (is ∙ ap Some same_item))
 
-  tells_given : (s r : ℕ) (kept : R) (m : Msg) → Label f g s r m → item_of f g z r (shown f g m) ≡ Some (Chunk (Some kept))
+  tells_given : (s r : ℕ) (kept : R) (m : Msg) → Label f g s r m → (a : Any R) → shown f g m ≡ Some a → IsSource a (Chunk (Some kept))
       → is_among (records.shared_in m) u ≡ true
-  tells_given s r kept m l e = by_shown (shown f g m) refl e
-    where
-      by_shown : (o : Option (Any R)) → shown f g m ≡ o → item_of f g z r o ≡ Some (Chunk (Some kept)) → is_among (records.shared_in m) u ≡ true
-      by_shown None is q = cc
-      by_shown (Some a) is q = by_source (source r a (Chunk (Some kept)) refl q)
-        where
-          by_source : IsSource a (Chunk (Some kept)) → is_among (records.shared_in m) u ≡ true
-          by_source (Gives n entry same own) = real_gives s r m l n entry kept (is ∙ ap Some same) cc
-          by_source (Takes n home cs same own) = cc
+  tells_given s r kept m l a is (Gives n entry same own) = real_gives s r m l n entry kept (is ∙ ap Some same) cc
+  tells_given s r kept m l a is (Takes n home cs same own) = cc
 
-  tells_taken : (s r : ℕ) (kept : R) (m : Msg) → Label f g s r m → item_of f g z r (shown f g m) ≡ Some (Sync (Some kept))
+  tells_taken : (s r : ℕ) (kept : R) (m : Msg) → Label f g s r m → (a : Any R) → shown f g m ≡ Some a → IsSource a (Sync (Some kept))
       → is_among (records.synced_in m) u ≡ true
-  tells_taken s r kept m l e = by_shown (shown f g m) refl e
-    where
-      by_shown : (o : Option (Any R)) → shown f g m ≡ o → item_of f g z r o ≡ Some (Sync (Some kept)) → is_among (records.synced_in m) u ≡ true
-      by_shown None is q = cc
-      by_shown (Some a) is q = by_source (source r a (Sync (Some kept)) refl q)
-        where
-          by_source : IsSource a (Sync (Some kept)) → is_among (records.synced_in m) u ≡ true
-          by_source (Gives n entry same own) = cc
-          by_source (Takes n home cs same own) = real_takes s r m l n home cs kept (is ∙ ap Some same) cc
+  tells_taken s r kept m l a is (Gives n entry same own) = cc
+  tells_taken s r kept m l a is (Takes n home cs same own) = real_takes s r m l n home cs kept (is ∙ ap Some same) cc
 
 -- In a world.
 module _ {F R : Type 0} (here : Reached F R) (u : Unit) (x : WantShare) (before since : List ℕ) (k : IsUnder here u x before since) where
@@ -214,11 +206,12 @@ module _ {F R : Type 0} (here : Reached F R) (u : Unit) (x : WantShare) (before 
 
     pub given_on : share_expect its_view s r ≡ Chunk (Some kept) ∷ [] → is_among (flat_map records.shared_in (on_link w s r)) u ≡ true
     given_on e =
-        among f g z k.covered s r records.shared_in (Chunk (Some kept)) (tells_given f g z s r kept) (on_link w s r) on_labels (shows (Chunk (Some kept)) e)
+        among f g z k.covered s r records.shared_in (Chunk (Some kept)) refl (tells_given f g z s r kept) (on_link w s r) on_labels
+        (shows (Chunk (Some kept)) e)
 
     pub taken_on : share_expect its_view s r ≡ Sync (Some kept) ∷ [] → is_among (flat_map records.synced_in (on_link w s r)) u ≡ true
     taken_on e =
-        among f g z k.covered s r records.synced_in (Sync (Some kept)) (tells_taken f g z s r kept) (on_link w s r) on_labels (shows (Sync (Some kept)) e)
+        among f g z k.covered s r records.synced_in (Sync (Some kept)) refl (tells_taken f g z s r kept) (on_link w s r) on_labels (shows (Sync (Some kept)) e)
 
   -- No chunk is on its way.
   none_on_link : (s r : ℕ) (ms : List Msg) → EachOn (Label f g s r) ms → AreKnown f g z k.covered s r (filter_map (shown f g) ms)
