@@ -2,19 +2,19 @@
 use Rattle.nf_net.proofs.Words.{◌≡◌, ℕ, true, false, Option, Some, None, List, [], ◌∷◌, ◌++◌, refl, sym, ap, ◌∙◌, subst, if◌then◌else◌, ◌==◌, Filter, Semantics}
 use Rattle.nf_net.proofs.Words.{FullCell, Answer, Order, Msg, Note, switch_node, instance_node, op_of, Keeping, SharePlan, ShareState, MoveState, MoveRow}
 use Rattle.nf_net.proofs.Words.{row_in, answer_of, move_at_start, Operation, Move, Copy, Share, turn_of, turn_of_move, ControllerState, on_asked, on_diverted}
-use Rattle.nf_net.proofs.Words.{queue_step, after_turn, takes_turn, hand_step, on_final, instance_at, step_and_finish, controller_step, place_of, stored_of}
+use Rattle.nf_net.proofs.Words.{after_turn, takes_turn, hand_step, on_final, instance_at, step_and_finish, controller_step, place_of, stored_of}
 use Rattle.nf_net.proofs.Words.{EachSent, CopyTurn, Idle, Hands, Hands_all, Ends, hands, copy_turn, got_insert, remove_insert, NotShared, Given, Label}
 use Rattle.nf_net.proofs.Words.{answered, noted, is_share, sent-append, Done, split}
 use Rattle.std.specs.FinMap as finite
 use Rattle.copy_share.specs.Copy as copy
 use Rattle.copy_share.specs.Share as share
 use Rattle.ctrl_node.specs.Controller.{Step, still, numbered, on_event, row as controller_row}
-use Rattle.nf_net.proofs.answers.ControllerCases.{OpensBy, Opens_move, Opens_copy, Opens_share, by_command, by_finish, by_operation, by_queue, by_sender}
+use Rattle.nf_net.proofs.answers.ControllerCases.{OpensBy, Opens_move, Opens_copy, Opens_share, by_command, by_finish, by_diverted, by_handed, by_sender}
 use Rattle.nf_net.proofs.answers.ControllerCases.{by_stop}
 use Rattle.nf_net.proofs.answers.BusyOperations.{HasOutcome, IsShareOf, answers_to, IsBusy, Causes, refusal_is}
 use Rattle.nf_net.proofs.answers.BusyChanges.{other_notes, turned as op_turned, set_up as op_set_up, closed as op_closed, dropped, refused, begun as op_begun}
 use Rattle.nf_net.proofs.answers.MoveSays.{Says, answer_is, move_says}
-use Rattle.nf_net.proofs.answers.ShareTells.{is_set_up, is_of_share, AreOfShare, Tells, ShareStep, handed_share, queued_share}
+use Rattle.nf_net.proofs.answers.ShareTells.{is_set_up, is_of_share, AreOfShare, Tells, ShareStep}
 
 -- the number of a command that a message brings
 abbrev pub told_in : Msg → List ℕ
@@ -131,13 +131,11 @@ module _ (g : Given) (log : List Note) (waits : List ℕ) where
             (not_set_up s tells.1) (set_up_answers now tells.2) tt)
 
     handed_is : (op port : ℕ) (m : Msg) → Says g port 1 m → StepIs (hand_step c op port m)
-    handed_is op port m label = by_operation StepIs c op port m
+    handed_is op port m label = by_handed StepIs c (λ k s is. (h.plan k (Share s) is).op_is) share_is op port m
         (λ no_share. turn_is op port m (finite.get c.operations op) refl no_share label)
-        (λ s is. share_is op s is (hand_step c op port m) (handed_share c op s is (h.plan op (Share s) is).op_is port m))
 
     diverted_is : (cell : FullCell) → StepIs (on_diverted c cell)
-    diverted_is cell = by_queue StepIs c cell still_is
-        (λ op s is. share_is op s is (queue_step c cell (Some op)) (queued_share c op s is (h.plan op (Share s) is).op_is cell))
+    diverted_is = by_diverted StepIs c (λ k s is. (h.plan k (Share s) is).op_is) share_is still_is
 
     numbered_is : (port : ℕ) (m : Msg) (o : Option ℕ) → Says g port 1 m → StepIs (numbered c port m o)
     numbered_is port m None label = still_is

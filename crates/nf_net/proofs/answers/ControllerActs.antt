@@ -3,7 +3,7 @@
 use Rattle.nf_net.proofs.Words.{◌≡◌, ◌≢◌, ℕ, Bool, true, false, cond, Option, Some, None, List, [], ◌∷◌, ◌++◌, refl, sym, ap, ◌∙◌, subst, arith, if◌then◌else◌}
 use Rattle.nf_net.proofs.Words.{◌==◌, Decides-eqb, Filter, Semantics, FullCell, Answer, Order, Msg, Note, stored_of, Keeping, CopyPlan, CopyState, SharePlan}
 use Rattle.nf_net.proofs.Words.{ShareState, MovePlan, MoveState, MoveRow, row_in, move_at_start, answer_of, Operation, Move, Copy, Share, turn_of, turn_of_move}
-use Rattle.nf_net.proofs.Words.{ControllerState, on_asked, on_diverted, queue_step, after_turn, takes_turn, hand_step, may_finish, step_and_finish}
+use Rattle.nf_net.proofs.Words.{ControllerState, on_asked, on_diverted, after_turn, takes_turn, hand_step, may_finish, step_and_finish}
 use Rattle.nf_net.proofs.Words.{controller_step, reaches, sent_weight, row_by, NotMove, CopyTurn, Idle, Hands, Hands_all, Ends, hands, copy_turns, got_insert}
 use Rattle.nf_net.proofs.Words.{got_remove, gone_twice, NotShared, answered, noted, Given, IsPlan, IsCopyPlan, Label, Mark, Done, split}
 use Rattle.std.specs.FinMap as finite
@@ -11,7 +11,7 @@ use Rattle.copy_share.specs.Copy as copy
 use Rattle.copy_share.specs.Share as share
 use Rattle.ctrl_node.specs.Controller as controller
 use Rattle.ctrl_node.specs.Controller.{Step, still, finish_of}
-use Rattle.nf_net.proofs.answers.ControllerCases.{OpensBy, Opens_move, Opens_copy, Opens_share, by_command, by_operation, by_queue}
+use Rattle.nf_net.proofs.answers.ControllerCases.{OpensBy, Opens_move, Opens_copy, Opens_share, by_command, by_diverted, by_handed}
 use Rattle.nf_net.proofs.answers.AnswerSends.{answering, NoAnswer, none_weighs, row_quiet}
 use Rattle.proof_outlines.proofs.outline.CopyTurns.{ends}
 use Rattle.proof_outlines.proofs.joined.KnownOperations.{AreKnown}
@@ -19,7 +19,7 @@ use Rattle.nf_net.proofs.answers.CreditCounts.{sent_weight-append}
 use Rattle.nf_net.proofs.answers.InstallCounts.{passed, row_adds}
 use Rattle.nf_net.proofs.answers.InstallRuns.{not_done}
 use Rattle.nf_net.proofs.answers.InstallSteps.{over_is}
-use Rattle.nf_net.proofs.answers.ShareTells.{is_set_up, is_of_share, AreOfShare, Tells, ShareStep, handed_share, queued_share}
+use Rattle.nf_net.proofs.answers.ShareTells.{is_set_up, is_of_share, AreOfShare, Tells, ShareStep}
 
 abbrev move_in : MoveState → Option Operation → MoveState
 move_in d (Some (Move m)) = m
@@ -199,13 +199,10 @@ module _ (g : Given) (n : ℕ) (reach : reaches n 1 0 ≡ true) (c : ControllerS
             (weighs (l.first ++ (0, Msg.Answered op) ∷ []) 1 sends (omega (arith, both, none, one))) plan.order_is (λ other. absurd (other refl))
 
     handed_acts : (op port : ℕ) (m : Msg) → Acts (hand_step c op port m)
-    handed_acts op port m = by_operation Acts c op port m
-        (λ no_share. turn_acts op port m (finite.get c.operations op) refl no_share)
-        (λ s is. share_acts op s is (hand_step c op port m) (handed_share c op s is (are.shares op s is).0 port m))
+    handed_acts op port m = by_handed Acts c (λ k s is. (are.shares k s is).0) share_acts op port m (turn_acts op port m (finite.get c.operations op) refl)
 
     diverted_acts : (cell : FullCell) → Acts (on_diverted c cell)
-    diverted_acts cell =
-        by_queue Acts c cell still_acts (λ op s is. share_acts op s is (queue_step c cell (Some op)) (queued_share c op s is (are.shares op s is).0 cell))
+    diverted_acts = by_diverted Acts c (λ k s is. (are.shares k s is).0) share_acts still_acts
 
     -- a command that waits
     begun_acts : (op : ℕ) → finite.get c.operations op ≡ None → {what : Order} (did : Step) → OpensBy c op what did → Acts did

@@ -7,7 +7,7 @@ use Rattle.nf_net.proofs.Words.{on_diverted, queue_step, takes_turn, hand_step, 
 use Rattle.ctrl_node.specs.Controller.{answers, Step, still, on_event}
 use Rattle.std.specs.FinMap as finite
 use Rattle.event_filter.specs.declared.mark.Mark.TheVariants.{Pass}
-use Rattle.nf_net.proofs.answers.ShareTells.{Queues, Queues_none, Queues_at, queues}
+use Rattle.nf_net.proofs.answers.ShareTells.{Queues, Queues_none, Queues_at, queues, ShareStep, handed_share, queued_share}
 
 -- the step in which an operation begins by its order
 pub data OpensBy (c : ControllerState) (op : ℕ) : Order → Step → Type 0 where
@@ -32,6 +32,16 @@ module _ (P : Step → Type 0) (c : ControllerState) where
       by_queues : (did : Step) → Queues c cell did → P did
       by_queues did (Queues_none e) = subst P (sym e) none
       by_queues did (Queues_at op s is e) = subst P (sym e) (share op s is)
+
+  -- what the steps of shares by their numbers keep, a message that is handed on and a packet of a share keep
+  module _ (op_is : (op : ℕ) (s : ShareState) → finite.get c.operations op ≡ Some (Share s) → s.plan.op ≡ op)
+      (share : (op : ℕ) (s : ShareState) → finite.get c.operations op ≡ Some (Share s) → (did : Step) → ShareStep c op s did → P did) where
+    pub by_handed : (op port : ℕ) (m : Msg)
+        → (NotShared (finite.get c.operations op) → P (takes_turn c op (turn_of (finite.get c.operations op) c.store port m))) → P (hand_step c op port m)
+    by_handed op port m other = by_operation op port m other (λ s is. share op s is (hand_step c op port m) (handed_share c op s is (op_is op s is) port m))
+
+    pub by_diverted : P (still c) → (cell : FullCell) → P (on_diverted c cell)
+    by_diverted none cell = by_queue cell none (λ op s is. share op s is (queue_step c cell (Some op)) (queued_share c op s is (op_is op s is) cell))
 
   pub by_sender : (port op : ℕ) (cell : FullCell) (i : Option ℕ) → P (still c) → P (hand_step c op port (Msg.Event op cell))
       → ((k : ℕ) → P (record { node = c; sends = (switch_node, Msg.Forward k (Pass op) cell) ∷ []; notes = [] })) → P (on_event c port op cell i)

@@ -4,7 +4,7 @@ use Rattle.nf_net.proofs.Words.{◌≡◌, ℕ, zero, suc, ◌+◌, ◌≤◌, B
 use Rattle.nf_net.proofs.Words.{if◌then◌else◌, ◌&&◌, ◌||◌, ◌==◌, not, nat_lt, list_all, nat_cmp, eq_by_cmp, and_parts, Filter, Packet, Semantics, FullCell}
 use Rattle.nf_net.proofs.Words.{one_more, Target, rules_redirected, Answer, Msg, Note, instance_node, op_of, core_sent, neither, Each, each-append, Operation}
 use Rattle.nf_net.proofs.Words.{Move, Copy, Share, Store, stored_of, SharePhase, ShareState, is_idle, OpenOperations, turn_of, is_quiet, are_quiet}
-use Rattle.nf_net.proofs.Words.{ControllerState, on_diverted, queue_step, takes_turn, hand_step, on_final, instance_at, SwitchState, switch_step, stop_messages}
+use Rattle.nf_net.proofs.Words.{ControllerState, on_diverted, takes_turn, hand_step, on_final, instance_at, SwitchState, switch_step, stop_messages}
 use Rattle.nf_net.proofs.Words.{sends_to_instance, target_of, has_room, is_there, row_fits, NotShared, Given, Label, Mark, split}
 use Rattle.std.proofs.Common.{◌-◌}
 use Rattle.std.specs.FinMap as finite
@@ -12,9 +12,9 @@ use Rattle.ctrl_node.specs.Controller as controller
 use Rattle.ctrl_node.specs.Controller.{Step, still, numbered, on_event}
 use Rattle.switch_node.specs.Switch as switch
 use Rattle.switch_node.specs.Switch.{goes_to}
-use Rattle.nf_net.proofs.answers.ControllerCases.{by_operation, by_queue, by_sender, by_stop}
+use Rattle.nf_net.proofs.answers.ControllerCases.{by_diverted, by_handed, by_sender, by_stop}
 use Rattle.nf_net.proofs.answers.InstallCounts.{finish}
-use Rattle.nf_net.proofs.answers.ShareTells.{is_set_up, Tells, turn_end, ShareStep, handed_share, queued_share}
+use Rattle.nf_net.proofs.answers.ShareTells.{is_set_up, Tells, turn_end, ShareStep}
 use Rattle.proof_outlines.proofs.joined.KnownOperations.{AreKnown}
 use Rattle.nf_net.proofs.answers.LinePicks.{picked}
 
@@ -128,13 +128,10 @@ module _ (g : Given) (c : ControllerState) (are : AreKnown g c) where
       still_set_up was now (Some why) tells on = tells.2
 
   handed_rests : (op port : ℕ) (m : Msg) → Rests (hand_step c op port m)
-  handed_rests op port m = by_operation Rests c op port m
-      (λ no_share. turn_rests op port m (finite.get c.operations op) refl no_share)
-      (λ s is. share_rests op s is (hand_step c op port m) (handed_share c op s is (are.shares op s is).0 port m))
+  handed_rests op port m = by_handed Rests c (λ k s is. (are.shares k s is).0) share_rests op port m (turn_rests op port m (finite.get c.operations op) refl)
 
   diverted_rests : (cell : FullCell) → Rests (on_diverted c cell)
-  diverted_rests cell =
-      by_queue Rests c cell rests (λ op s is. share_rests op s is (queue_step c cell (Some op)) (queued_share c op s is (are.shares op s is).0 cell))
+  diverted_rests = by_diverted Rests c (λ k s is. (are.shares k s is).0) share_rests rests
 
   numbered_rests : (port : ℕ) (m : Msg) (o : Option ℕ) → Rests (numbered c port m o)
   numbered_rests port m None = rests

@@ -2,7 +2,7 @@
 use Rattle.nf_net.proofs.Words.{◌≡◌, ℕ, ◌+◌, Bool, true, false, cond, Option, Some, None, List, [], ◌∷◌, ◌++◌, refl, sym, ap, ◌∙◌, subst, arith, map}
 use Rattle.nf_net.proofs.Words.{if◌then◌else◌, ◌==◌, nat_tests, Decides-eqb, Filter, Semantics, FullCell, Answer, Order, Msg, instance_node, Keeping, CopyState}
 use Rattle.nf_net.proofs.Words.{SharePlan, ShareState, MoveState, MoveRow, row_in, move_at_start, answer_of, stored_of, Operation, Move, Copy, Share, turn_of}
-use Rattle.nf_net.proofs.Words.{turn_of_move, ControllerState, on_asked, on_diverted, queue_step, after_turn, takes_turn, hand_step, unknown_name, overlap}
+use Rattle.nf_net.proofs.Words.{turn_of_move, ControllerState, on_asked, on_diverted, after_turn, takes_turn, hand_step, unknown_name, overlap}
 use Rattle.nf_net.proofs.Words.{step_and_finish, controller_step, reaches, sent_weight, answers_of, row_by, got_insert, got_remove, gone_twice, NotShared}
 use Rattle.nf_net.proofs.Words.{CopyTurn, Idle, Hands, Hands_all, Ends, hands, copy_turns, answered, noted, Given, IsPlan, IsCopyPlan, Label, Action, Mark}
 use Rattle.nf_net.proofs.Words.{Note, Done, split}
@@ -13,10 +13,10 @@ use Rattle.ctrl_node.specs.Controller as controller
 use Rattle.ctrl_node.specs.Controller.{Step, still, opening_step}
 use Rattle.proof_outlines.proofs.outline.CopyTurns.{ends}
 use Rattle.proof_outlines.proofs.joined.KnownOperations.{AreKnown}
-use Rattle.nf_net.proofs.answers.ControllerCases.{OpensBy, Opens_move, Opens_copy, Opens_share, by_command, by_finish, by_operation, by_queue}
+use Rattle.nf_net.proofs.answers.ControllerCases.{OpensBy, Opens_move, Opens_copy, Opens_share, by_command, by_finish, by_diverted, by_handed}
 use Rattle.nf_net.proofs.answers.CreditCounts.{sent_weight-append}
 use Rattle.nf_net.proofs.answers.InstallCounts.{sent_of, install, finish, done_in, passed, Adds, NoInstall, no_one, no_both, row_adds}
-use Rattle.nf_net.proofs.answers.ShareTells.{ShareStep, handed_share, queued_share}
+use Rattle.nf_net.proofs.answers.ShareTells.{ShareStep}
 use Rattle.nf_net.proofs.answers.InstallSteps.{is_moving, dones, dones-none, open_in, over_is, shares_none, answered_none, refused_none}
 
 -- The controller.
@@ -182,13 +182,10 @@ module _ (n : ℕ) (reach : reaches n 1 0 ≡ true) (g : Given) (k : ℕ) (c : C
             (λ on. ap (λ b. dones b (why ∷ [])) (still on)) (λ off. refl)
 
     handed_is : (op port : ℕ) (m : Msg) → Counts (hand_step c op port m)
-    handed_is op port m = by_operation Counts c op port m
-        (λ no_share. turn_is op port m (finite.get c.operations op) refl no_share)
-        (λ s is. share_is op s is (hand_step c op port m) (handed_share c op s is (are.shares op s is).0 port m))
+    handed_is op port m = by_handed Counts c (λ k s is. (are.shares k s is).0) share_is op port m (turn_is op port m (finite.get c.operations op) refl)
 
     diverted_is : (cell : FullCell) → Counts (on_diverted c cell)
-    diverted_is cell =
-        by_queue Counts c cell still_is (λ op s is. share_is op s is (queue_step c cell (Some op)) (queued_share c op s is (are.shares op s is).0 cell))
+    diverted_is = by_diverted Counts c (λ k s is. (are.shares k s is).0) share_is still_is
 
     -- another operation than a share begins
     opens_is : (op : ℕ) → finite.get c.operations op ≡ None → (o : Operation) (sends : List (ℕ × Msg)) → open_in (Some o) ≡ 0 → NoInstall n 1 sends
