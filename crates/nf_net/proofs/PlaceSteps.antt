@@ -1,6 +1,6 @@
 -- In a step of a run an instance processes packets at places of their units.
-use Rattle.nf_net.proofs.Words.{◌≡◌, ℕ, suc, ◌+◌, ◌⊎◌, inl, inr, true, false, Option, Some, None, List, [], ◌∷◌, ◌++◌, length, refl, sym, ap, ◌∙◌, subst, arith}
-use Rattle.nf_net.proofs.Words.{◌&&◌, ◌==◌, filter_map, nat_tests, Decides-eqb, and_parts, FunctionLaws, Semantics, takes, Output, same_unit_equiv, Msg, Note}
+use Rattle.nf_net.proofs.Words.{◌≡◌, ℕ, suc, ◌+◌, ◌⊎◌, inl, inr, true, Option, Some, None, List, [], ◌∷◌, ◌++◌, length, refl, sym, ap, ◌∙◌, subst, arith}
+use Rattle.nf_net.proofs.Words.{filter_map, nat_tests, Decides-eqb, and_parts, FunctionLaws, Semantics, takes, Output, same_unit_equiv, Msg, Note}
 use Rattle.nf_net.proofs.Words.{instance_node, FullCell, stored_of, place_of, Operation, Move, Copy, Share, InstanceState, instance_step, Network, queue_at}
 use Rattle.nf_net.proofs.Words.{Each, Open, find_op, Any, New, OpenShare, moves_of, MayRun, ran_by, ItsShare, Config, Node, IsInput, job_of, is_at, owner}
 use Rattle.nf_net.proofs.Words.{members, unit_numbered, IsMoving, IsPlace, Owns, Is_destination, Is_member, is_whole, unit_fits, takes_whole, ran_in, is_sys}
