@@ -11,6 +11,7 @@ use Rattle.proof_machines.proofs.net.Words.{EachSent, frame, Label, SeesNode, sh
 use Rattle.proof_machines.proofs.net.Words.{done_of-append, done_at, each_after, Answer, either_way, split, did_sends}
 use Rattle.proof_machines.proofs.unit.Machine.{Take_sc}
 use Rattle.proof_machines.proofs.unit.Stages.{shape}
+use Rattle.proof_machines.proofs.unit.Fresh.{taken_sa, taken_sb}
 use Rattle.proof_machines.proofs.net.Insts.{InstanceGoes, does, carry_goes, pass_goes, fence_goes}
 use Rattle.proof_machines.proofs.net.InstMoves.{MovesInstance, Any, Streams_out, Puts_in, move_goes}
 use Rattle.proof_machines.proofs.net.OnLinks.{no_put, no_stream, ok_head, ca_kind, cb_kind}
@@ -188,12 +189,6 @@ module _ {R : Type 0} (S : Sys R) (laws : IsSys S) (z : Seeing) where
       pub is_third : y ≡ z.third → node_at S z x y ≡ x.c
       is_third yc = let t = third_tests.0 in let u = third_tests.1 in let q = third_tests.2 in rw (yc, t, u, q) refl
 
-      taken_sa : (u : State R) → u.sa ≡ it ∷ v → moved S.F u Take_sa ≡ put_a (record u { sa = v }) (inst_does S.F At_a [] None u.a it)
-      taken_sa u e = ap (λ l. elim l as (λ _. State R) [ [] ↦ u | x ∷ xs ↦ put_a (record u { sa = xs }) (inst_does S.F At_a [] None u.a x) ]) e
-
-      taken_sb : (u : State R) → u.sb ≡ it ∷ v → moved S.F u Take_sb ≡ put_b (record u { sb = v }) (inst_does S.F At_b [] None u.b it)
-      taken_sb u e = ap (λ l. elim l as (λ _. State R) [ [] ↦ u | x ∷ xs ↦ put_b (record u { sb = xs }) (inst_does S.F At_b [] None u.b x) ]) e
-
       taken_sc : (u : State R) → u.sc ≡ it ∷ v → moved S.F u Take_sc ≡ put_c (record u { sc = v }) (inst_does S.F At_c [] None u.c it)
       taken_sc u e = ap (λ l. elim l as (λ _. State R) [ [] ↦ u | x ∷ xs ↦ put_c (record u { sc = xs }) (inst_does S.F At_c [] None u.c x) ]) e
 
@@ -218,7 +213,7 @@ module _ {R : Type 0} (S : Sys R) (laws : IsSys S) (z : Seeing) where
           moves_on (inst_next S w p y m) s Take_sa x' (next_holds x' d g (views_on x'
           (pair 0 z.op.src x' p0 ya (a_from_s z.op.src z.op.dst z.third h.nodes x it v (sent S z y did.sends) d.to_c e (at_1 d g) (at_else d g))))
           (rw (ya, same) refl) (λ k off. let out : (k == z.op.src) ≡ false = grind (arith, nat_tests) in rw out refl) refl refl refl refl refl)
-          (taken_sa x e) tt
+          (taken_sa S.F x it v e) tt
 
       by_sb : y ≡ z.op.dst → p ≡ 0 → x.sb ≡ it ∷ v → Goes_to (inst_next S w p y m) s []
       by_sb yb p0 e =
@@ -231,7 +226,7 @@ module _ {R : Type 0} (S : Sys R) (laws : IsSys S) (z : Seeing) where
           moves_on (inst_next S w p y m) s Take_sb x' (next_holds x' d g (views_on x'
           (pair 0 z.op.dst x' p0 yb (b_from_s z.op.src z.op.dst z.third h.nodes x it v (sent S z y did.sends) d.to_c e (at_1 d g) (at_else d g))))
           (rw (yb, off_a, same) refl) (λ k off. let out : (k == z.op.dst) ≡ false = grind (arith, nat_tests) in rw out refl) refl refl refl refl refl)
-          (taken_sb x e) tt
+          (taken_sb S.F x it v e) tt
 
       by_sc : y ≡ z.third → p ≡ 0 → x.sc ≡ it ∷ v → Goes_to (inst_next S w p y m) s []
       by_sc yc p0 e =

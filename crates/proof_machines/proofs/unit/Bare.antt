@@ -4,7 +4,7 @@ use Rattle.proof_machines.proofs.unit.Words.{◌==◌, option_to_list, Ran, Step
 use Rattle.proof_machines.proofs.unit.Words.{next, State, MachineStep, firsts, marked, nil_left, nil_right, Stage, At_rest, Streams, Is_wide, shape, path}
 use Rattle.proof_machines.proofs.unit.Words.{all_of, loose, times, Same, IsOrderedAs, Allowed, arrived_by}
 use Rattle.std.proofs.lemmas.Bool.Decides.{Decides-eqb}
-use Rattle.proof_machines.proofs.unit.Path.{passes_in, carries, path_of, path_is}
+use Rattle.proof_machines.proofs.unit.Path.{passes_in, carries, path_of, carry, pass, path_is}
 use Rattle.proof_machines.proofs.unit.Kept.{Kept, Nowhere, Is_live, On_way, Twice, is_kept, lives, on_way, records_on, frozen_in}
 use Rattle.proof_machines.proofs.unit.Steps.{goes_on}
 
@@ -38,12 +38,6 @@ from_switch-append (Carry p ∷ xs) ys e = from_switch-append xs ys e
 from_switch-append (Pass p ∷ xs) ys e = from_switch-append xs ys e
 from_switch-append (Fence ∷ xs) ys e = from_switch-append xs ys e
 from_switch-append (x ∷ xs) ys e = cc
-
-abbrev carry : {R : Type 0} → ℕ → Item R
-carry p = Carry p
-
-abbrev pass : {R : Type 0} → ℕ → Item R
-pass p = Pass p
 
 carries_from : (R : Type 0) (l : List ℕ) → from_switch (map (carry {R = R}) l) ≡ true
 carries_from R [] = refl

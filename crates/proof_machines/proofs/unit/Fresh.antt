@@ -114,21 +114,21 @@ bare_ran F s bare m a none ran taken =
     let g = goes_on F s m a in
     nil_right (shape F s).done ran (sym taken ∙ ap (λ x. x.done) g.1 ∙ (bare_facts F g.0 (stays_bare F s m a bare none)).done)
 
-taken_sa : {R : Type 0} (F : Steps R) (u : State R) (it : Item R) (v : List (Item R)) → u.sa ≡ it ∷ v
-    → (moved F u Take_sa).done ≡ u.done ++ (inst_does F At_a [] None u.a it).ran
-taken_sa {R = R} F u it v e = ap (λ l. (elim l as (λ _. State R) [ [] ↦ u | x ∷ xs ↦ put_a (record u { sa = xs }) (inst_does F At_a [] None u.a x) ]).done) e
+pub taken_sa : {R : Type 0} (F : Steps R) (u : State R) (it : Item R) (v : List (Item R)) → u.sa ≡ it ∷ v
+    → moved F u Take_sa ≡ put_a (record u { sa = v }) (inst_does F At_a [] None u.a it)
+taken_sa {R = R} F u it v e = ap (λ l. elim l as (λ _. State R) [ [] ↦ u | x ∷ xs ↦ put_a (record u { sa = xs }) (inst_does F At_a [] None u.a x) ]) e
 
 pub bare_sa : {R : Type 0} (F : Steps R) (s : Stage F) → all_of s ≡ [] → (it : Item R) (v : List (Item R)) → (shape F s).sa ≡ it ∷ v
     → (inst_does F At_a [] None (shape F s).a it).ran ≡ []
-bare_sa F s bare it v e = bare_ran F s bare Take_sa tt refl _ (taken_sa F (shape F s) it v e)
+bare_sa F s bare it v e = bare_ran F s bare Take_sa tt refl _ (ap (λ x. x.done) (taken_sa F (shape F s) it v e))
 
-taken_sb : {R : Type 0} (F : Steps R) (u : State R) (it : Item R) (v : List (Item R)) → u.sb ≡ it ∷ v
-    → (moved F u Take_sb).done ≡ u.done ++ (inst_does F At_b [] None u.b it).ran
-taken_sb {R = R} F u it v e = ap (λ l. (elim l as (λ _. State R) [ [] ↦ u | x ∷ xs ↦ put_b (record u { sb = xs }) (inst_does F At_b [] None u.b x) ]).done) e
+pub taken_sb : {R : Type 0} (F : Steps R) (u : State R) (it : Item R) (v : List (Item R)) → u.sb ≡ it ∷ v
+    → moved F u Take_sb ≡ put_b (record u { sb = v }) (inst_does F At_b [] None u.b it)
+taken_sb {R = R} F u it v e = ap (λ l. elim l as (λ _. State R) [ [] ↦ u | x ∷ xs ↦ put_b (record u { sb = xs }) (inst_does F At_b [] None u.b x) ]) e
 
 pub bare_sb : {R : Type 0} (F : Steps R) (s : Stage F) → all_of s ≡ [] → (it : Item R) (v : List (Item R)) → (shape F s).sb ≡ it ∷ v
     → (inst_does F At_b [] None (shape F s).b it).ran ≡ []
-bare_sb F s bare it v e = bare_ran F s bare Take_sb tt refl _ (taken_sb F (shape F s) it v e)
+bare_sb F s bare it v e = bare_ran F s bare Take_sb tt refl _ (ap (λ x. x.done) (taken_sb F (shape F s) it v e))
 
 -- The links from the switch, at any seat.
 pub fresh_sa : {R : Type 0} (F : Steps R) (s : UnitSeat F) (it : Item R) (v : List (Item R)) (parts : List (Part R)) (refuse : Option Answer)

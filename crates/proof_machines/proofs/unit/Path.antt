@@ -44,10 +44,10 @@ pub carries-append : {R : Type 0} (xs ys : List (Item R)) → carries (xs ++ ys)
 carries-append xs ys = filter_map-append carry_of xs ys
 
 -- lists of one kind
-abbrev carry : {R : Type 0} → ℕ → Item R
+abbrev pub carry : {R : Type 0} → ℕ → Item R
 carry p = Carry p
 
-abbrev pass : {R : Type 0} → ℕ → Item R
+abbrev pub pass : {R : Type 0} → ℕ → Item R
 pass p = Pass p
 
 abbrev event : {R : Type 0} → ℕ → Item R
