@@ -7,6 +7,7 @@ use Rattle.nf_net.proofs.Words.{events_in, is_known, seen, MoveAsked, Seeing, fr
 use Rattle.nf_net.proofs.Words.{passed_in, carried_in, forwarded_in, handed_over_in, diverted_in, number, want_of, asked_of, want_share_of, Given, place, S}
 use Rattle.nf_net.proofs.Words.{shown, Label, FromSwitch, ToSwitch, ToController, Unit, split}
 use Rattle.proof_machines.proofs.unit.Machine.{Item, Pass, Forward}
+use Rattle.std.proofs.lemmas.List.Elements.{filter_map-append}
 use Rattle.actor_net.proofs.WeightLaws.{Each}
 use Rattle.proof_machines.proofs.unit.NetViews.{items}
 use Rattle.proof_machines.proofs.unit.Path.{carries, forwards}
@@ -16,25 +17,10 @@ use Rattle.proof_machines.proofs.net.Shares.{Old}
 
 -- an item that is seen, or not, before others
 module _ {R : Type 0} where
-  passes-add : (o : Option (Item R)) (xs : List (Item R)) → passes_in (add o xs) ≡ passes_in (add o []) ++ passes_in xs
-  passes-add None xs = refl
-  passes-add (Some (Pass p)) xs = refl
-  passes-add (Some x) xs = refl
-
-  carries-add : (o : Option (Item R)) (xs : List (Item R)) → carries (add o xs) ≡ carries (add o []) ++ carries xs
-  carries-add None xs = refl
-  carries-add (Some (Carry p)) xs = refl
-  carries-add (Some x) xs = refl
-
-  events-add : (o : Option (Item R)) (xs : List (Item R)) → events_in (add o xs) ≡ events_in (add o []) ++ events_in xs
-  events-add None xs = refl
-  events-add (Some (Event p)) xs = refl
-  events-add (Some x) xs = refl
-
-  forwards-add : (o : Option (Item R)) (xs : List (Item R)) → forwards (add o xs) ≡ forwards (add o []) ++ forwards xs
-  forwards-add None xs = refl
-  forwards-add (Some (Forward w p)) xs = refl
-  forwards-add (Some x) xs = refl
+  picked-add : (pick : Item R → Option ℕ) (o : Option (Item R)) (xs : List (Item R))
+      → filter_map pick (add o xs) ≡ filter_map pick (add o []) ++ filter_map pick xs
+  picked-add pick None xs = refl
+  picked-add pick (Some x) xs = filter_map-append pick (x ∷ []) xs
 
   known-add : (o : Option (Item R)) (xs : List (Item R)) → is_known (add o xs) ≡ true → (is_known (add o []) ≡ true) × (is_known xs ≡ true)
   known-add None xs e = (refl, e)
@@ -221,17 +207,17 @@ module _ {R : Type 0} (f : Semantics R) (g : Given) (z : Seeing) (es : List Open
       let more = seen_more m ms in
       record {
         pass = filter-append mine (passed_in m) (flat_map passed_in ms) ∙ ap (λ v. v ++ filter mine (flat_map passed_in ms)) one.pass
-            ∙ ap (λ v. passes_in (add o []) ++ v) rest.pass ∙ sym (passes-add o xs) ∙ ap passes_in (sym more);
+            ∙ ap (λ v. passes_in (add o []) ++ v) rest.pass ∙ sym (picked-add _ o xs) ∙ ap passes_in (sym more);
         carry = filter-append mine (carried_in m) (flat_map carried_in ms) ∙ ap (λ v. v ++ filter mine (flat_map carried_in ms)) one.carry
-            ∙ ap (λ v. carries (add o []) ++ v) rest.carry ∙ sym (carries-add o xs) ∙ ap carries (sym more);
+            ∙ ap (λ v. carries (add o []) ++ v) rest.carry ∙ sym (picked-add _ o xs) ∙ ap carries (sym more);
         event = filter-append mine (handed_over_in m) (flat_map handed_over_in ms) ∙ ap (λ v. v ++ filter mine (flat_map handed_over_in ms)) one.event
-            ∙ ap (λ v. events_in (add o []) ++ v) rest.event ∙ sym (events-add o xs) ∙ ap events_in (sym more);
+            ∙ ap (λ v. events_in (add o []) ++ v) rest.event ∙ sym (picked-add _ o xs) ∙ ap events_in (sym more);
         divert = filter-append mine (diverted_in m) (flat_map diverted_in ms) ∙ ap (λ v. v ++ filter mine (flat_map diverted_in ms)) (msg_diverts m both.0)
             ∙ rest.divert;
         forward = λ t.
             let known = known-add o xs (ap is_known (sym more) ∙ t) in
             filter-append mine (forwarded_in m) (flat_map forwarded_in ms) ∙ ap (λ v. v ++ filter mine (flat_map forwarded_in ms)) (one.forward known.0)
-            ∙ ap (λ v. forwards (add o []) ++ v) (rest.forward known.1) ∙ sym (forwards-add o xs) ∙ ap forwards (sym more);
+            ∙ ap (λ v. forwards (add o []) ++ v) (rest.forward known.1) ∙ sym (picked-add _ o xs) ∙ ap forwards (sym more);
       }
 
 -- On other links there are no such messages.
