@@ -52,7 +52,7 @@ module _ {R : Type 0} (f : Semantics R) (g : Given) (z : Seeing) (es : List Open
     event : filter mine (handed_over_in m) ≡ events_in (add o [])
     forward : is_known (add o []) ≡ true → filter mine (forwarded_in m) ≡ forwards (add o [])
 
-  -- packets by their kinds
+  -- packets that were handed on, that come by the rules, that are events, and that are on their way by the switch
   abbrev Packets : Type 0
   Packets = List ℕ × List ℕ × List ℕ × List ℕ
 
