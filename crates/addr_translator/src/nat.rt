@@ -3,7 +3,7 @@ use crate::table::step_of_host;
 use crate::{body, text};
 use basics::{Bytes, NoMemory, Text};
 use flow_filter::{Direction, Flow, Packet, Site};
-use nf_function::{BodyFault, Function, Kind, Output, Unit};
+use nf_function::{BodyFault, Function, Kind, Output, ShortBody, Unit};
 use std::alloc::Global;
 use std::cmp::Ordering;
 
@@ -45,6 +45,14 @@ impl Function for Nat {
 
     fn read_record(_alloc: Global, unit: &Unit, body: &[u8]) -> Result<NatRecord, BodyFault> {
         body::record_in(unit, body).ok_or(BodyFault::Body)
+    }
+
+    fn short_body(_kept: &NatRecord) -> Option<ShortBody> {
+        None
+    }
+
+    fn read_short(alloc: Global, unit: &Unit, body: &ShortBody) -> Result<NatRecord, BodyFault> {
+        Self::read_record(alloc, unit, body.bytes(alloc)?.items())
     }
 
     fn newer(a: &NatRecord, b: &NatRecord) -> bool {

@@ -3,7 +3,7 @@ use crate::table::step_of_host;
 use crate::{body, text};
 use basics::{Bytes, NoMemory, Text};
 use flow_filter::{Direction, Flow, Packet, Site};
-use nf_function::{BodyFault, Function, Kind, Output, Unit};
+use nf_function::{BodyFault, Function, Kind, Output, ShortBody, Unit};
 use std::alloc::Global;
 use std::cmp::Ordering;
 
@@ -46,6 +46,14 @@ impl Function for Monitor {
 
     fn read_record(alloc: Global, unit: &Unit, body: &[u8]) -> Result<AssetRecord, BodyFault> {
         body::record_in(alloc, unit, body)
+    }
+
+    fn short_body(_kept: &AssetRecord) -> Option<ShortBody> {
+        None
+    }
+
+    fn read_short(alloc: Global, unit: &Unit, body: &ShortBody) -> Result<AssetRecord, BodyFault> {
+        Self::read_record(alloc, unit, body.bytes(alloc)?.items())
     }
 
     fn newer(a: &AssetRecord, b: &AssetRecord) -> bool {

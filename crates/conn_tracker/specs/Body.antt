@@ -1,12 +1,13 @@
--- The bytes that a tracker's record is stored as. This project's own format: state (1 byte), opener (1: 0 out, 1 in),
+-- The bytes that a tracker's record is stored as. This project's own format, a body in few numbers: state (1 byte), opener (1: 0 out, 1 in),
 -- packets (8), bytes (8), and then seen (8) where it isn't 0.
-use Rattle.std.specs.Prelude.{ℕ, ◌^◌, ◌==◌, ◌&&◌, nat_le, nat_lt, Bool, false, not, if◌then◌else◌, List, [], ◌∷◌, ◌++◌, slice_get, Option, None, Some}
+use Rattle.std.specs.Prelude.{ℕ, ◌^◌, ◌&&◌, nat_le, nat_lt, Bool, false, not, if◌then◌else◌, List, [], ◌∷◌, slice_get, Option, None, Some}
 use Rattle.basics.specs.Options.{◌>>=◌}
 use Rattle.flow_filter.specs.declared.flow.Direction.{Direction}
 use Rattle.flow_filter.specs.declared.flow.Direction.TheVariants.{Out, In}
 use Rattle.nf_function.specs.declared.unit.Unit as units
 use Rattle.nf_function.specs.declared.unit.Unit.TheVariants.{Flow as OfFlow, Host as OfHost}
-use Rattle.nf_function.specs.Stored.{number_bytes, first_byte, first_number}
+use Rattle.nf_function.specs.declared.short.ShortBody.{ShortBody}
+use Rattle.nf_function.specs.Short.{short_bytes, short_in}
 use Rattle.nf_function.specs.Units.{is_tcp, is_transport_flow}
 use Rattle.conn_tracker.specs.declared.record.TrackRecord.{TrackRecord}
 use Rattle.conn_tracker.specs.declared.state.State.{State}
@@ -34,30 +35,24 @@ abbrev pub is_valid : units.Unit → TrackRecord → Bool
 is_valid (OfFlow flow) r = is_transport_flow flow && nat_le 1 r.packets && suits flow.proto r.state && is_within r
 is_valid (OfHost host) r = false
 
--- the time, where one is known
-abbrev pub seen_bytes : ℕ → List ℕ
-seen_bytes seen = if seen == 0 then [] else number_bytes 8 seen
+-- a record as the numbers that it is stored as
+abbrev pub numbers_of : TrackRecord → ShortBody
+numbers_of r = record { third = r.packets; fourth = r.bytes; last = r.seen; first = state_number r.state; second = direction_number r.opener }
 
 unfoldable pub body_of : TrackRecord → List ℕ
-body_of r = (state_number r.state ∷ direction_number r.opener ∷ []) ++ number_bytes 8 r.packets ++ number_bytes 8 r.bytes ++ seen_bytes r.seen
+body_of r = short_bytes (numbers_of r)
 
--- the time that bytes spell: none, or one that isn't 0 and all of them
-abbrev pub last_time : ℕ × List ℕ → Option ℕ
-last_time (seen, []) = if seen == 0 then None else Some seen
-last_time (seen, byte ∷ more) = None
+-- the record that numbers name
+abbrev pub record_named : ShortBody → Option TrackRecord
+record_named b = do
+  state ← state_of b.first
+  opener ← direction_of b.second
+  Some (record { packets = b.third; bytes = b.fourth; seen = b.last; state = state; opener = opener })
 
-unfoldable pub seen_in : List ℕ → Option ℕ
-seen_in [] = Some 0
-seen_in (byte ∷ more) = first_number 8 (byte ∷ more) >>= last_time
+-- the record that numbers name, where it is valid for the unit
+abbrev pub valid_named : units.Unit → ShortBody → Option TrackRecord
+valid_named unit b = record_named b >>= λ r. if is_valid unit r then Some r else None
 
 -- the record that bytes spell
-unfoldable pub spelled : List ℕ → Option TrackRecord
-spelled body = do
-  state ← first_byte body
-  named ← state_of state.0
-  opener ← first_byte state.1
-  direction ← direction_of opener.0
-  packets ← first_number 8 opener.1
-  bytes ← first_number 8 packets.1
-  seen ← seen_in bytes.1
-  Some (record { packets = packets.0; bytes = bytes.0; seen = seen; state = named; opener = direction })
+abbrev pub spelled : List ℕ → Option TrackRecord
+spelled body = short_in body >>= record_named

@@ -1,82 +1,31 @@
 //! The bytes that a record is stored as.
-ghost use Rattle.std.specs.Prelude.{◌≡◌, ◌++◌, ◌∷◌, [], length, OnOk};
+ghost use Rattle.std.specs.Prelude.{◌≡◌};
 ghost use Rattle.nf_function.specs.declared.unit.Unit.TheVariants.{Flow as OfFlow};
 ghost use Rattle.nf_function.specs.Records.{age_cmp};
 ghost use Rattle.nf_function.specs.Semantics.{record_in};
-ghost use Rattle.nf_function.specs.Stored.{number_bytes};
-ghost use Rattle.conn_tracker.specs.Table.{state_number};
+ghost use Rattle.nf_function.specs.Short.{short_bytes};
 ghost use Rattle.conn_tracker.specs.Conntrack.{conntrack};
-ghost use Rattle.conn_tracker.specs.Body.{is_valid, suits, body_of, seen_bytes, spelled, seen_in, direction_number, direction_of};
+ghost use Rattle.conn_tracker.specs.Body.{is_valid, suits, numbers_of, body_of, record_named, valid_named, direction_number, direction_of};
 
 use crate::record::TrackRecord;
 use crate::state::State;
-use basics::{Bytes, NoMemory};
 use flow_filter::{Direction, Flow, TCP};
-use nf_function::stored::{first_byte, first_u64, push_u64};
-use nf_function::{Unit, is_transport};
+use nf_function::{ShortBody, Unit, is_transport};
 use std::cmp::Ordering;
 
-/// How many bytes a record without a time is stored as.
-const LENGTH: u16 = 18;
-
-/// How many bytes a record with a time is stored as.
-const TIMED_LENGTH: u16 = 26;
-
-/// How many bytes a record is stored as.
-#[tactic(auto, unfolding(crate::specs::Body::body_of, nf_function::specs::Stored::number_bytes))]
-pub fn body_length(kept: &TrackRecord) -> u16
-    ensures { result ≡ length (body_of kept.now) }
-{
-    if kept.seen == 0 { LENGTH } else { TIMED_LENGTH }
-}
-
-/// Puts the bytes that a record is stored as after others.
+/// A record as the numbers that it is stored as.
 #[tactic(auto, unfolding(crate::specs::Body::body_of))]
-pub fn push_body(bytes: &mut Bytes, kept: &TrackRecord) -> Result<(), NoMemory>
-    ensures { OnOk result (bytes.new ≡ bytes.old ++ body_of kept.now) }
+pub fn numbers_of(kept: &TrackRecord) -> ShortBody
+    ensures numbers { result ≡ numbers_of kept.now }
+    ensures body { short_bytes result ≡ body_of kept.now }
 {
-    bytes.push_bytes(&untimed(kept))?;
-    push_time(bytes, kept.seen)
-}
-
-/// What stands before the time.
-#[tactic(auto, unfolding(nf_function::specs::Stored::number_bytes))]
-fn untimed(kept: &TrackRecord) -> [u8; 18]
-    ensures { result
-        ≡ (state_number kept.now.state ∷ direction_number kept.now.opener ∷ []) ++ number_bytes 8 kept.now.packets ++ number_bytes 8 kept.now.bytes }
-{
-    let [p, p_2, p_3, p_4, p_5, p_6, p_7, p_8] = kept.packets.to_be_bytes();
-    let [b, b_2, b_3, b_4, b_5, b_6, b_7, b_8] = kept.bytes.to_be_bytes();
-    [
-        kept.state.number(),
-        direction_number(kept.opener),
-        p,
-        p_2,
-        p_3,
-        p_4,
-        p_5,
-        p_6,
-        p_7,
-        p_8,
-        b,
-        b_2,
-        b_3,
-        b_4,
-        b_5,
-        b_6,
-        b_7,
-        b_8,
-    ]
-}
-
-/// Puts a time after other bytes, where one is known.
-fn push_time(bytes: &mut Bytes, seen: u64) -> Result<(), NoMemory>
-    ensures { OnOk result (bytes.new ≡ bytes.old ++ seen_bytes seen) }
-{
-    if seen == 0 {
-        return Ok(());
+    ShortBody {
+        third: kept.packets,
+        fourth: kept.bytes,
+        last: kept.seen,
+        first: kept.state.number(),
+        second: direction_number(kept.opener),
     }
-    push_u64(bytes, seen)
 }
 
 /// The byte that a direction is stored as.
@@ -93,26 +42,34 @@ fn direction_number(direction: Direction) -> u8
 pub fn record_in(unit: &Unit, body: &[u8]) -> Option<TrackRecord>
     ensures { result ≡ record_in conntrack unit.now body.now }
 {
-    let record = spelled(body)?;
+    valid_named(unit, ShortBody::read(body)?)
+}
+
+/// The record of the unit that the bytes of the numbers spell.
+pub fn short_record(unit: &Unit, body: ShortBody) -> Option<TrackRecord>
+    ensures { result ≡ record_in conntrack unit.now (short_bytes body) }
+{
+    valid_named(unit, body)
+}
+
+/// The record that the numbers name, where it is valid for the unit.
+fn valid_named(unit: &Unit, body: ShortBody) -> Option<TrackRecord>
+    ensures { result ≡ valid_named unit.now body }
+{
+    let record = record_named(body)?;
     is_valid(*unit, record).then_some(record)
 }
 
-/// The record that the bytes spell.
-#[tactic(auto, unfolding(crate::specs::Body::spelled))]
-fn spelled(body: &[u8]) -> Option<TrackRecord>
-    ensures { result ≡ spelled body.now }
+/// The record that the numbers name.
+fn record_named(body: ShortBody) -> Option<TrackRecord>
+    ensures { result ≡ record_named body }
 {
-    let (state, rest) = first_byte(body)?;
-    let state = State::numbered(state)?;
-    let (opener, rest) = first_byte(rest)?;
-    let opener = direction_numbered(opener)?;
-    let (packets, rest) = first_u64(rest)?;
-    let (bytes, rest) = first_u64(rest)?;
-    let seen = seen_in(rest)?;
+    let state = State::numbered(body.first)?;
+    let opener = direction_numbered(body.second)?;
     Some(TrackRecord {
-        packets,
-        bytes,
-        seen,
+        packets: body.third,
+        bytes: body.fourth,
+        seen: body.last,
         state,
         opener,
     })
@@ -125,21 +82,6 @@ fn direction_numbered(number: u8) -> Option<Direction>
     match number {
         0 => Some(Direction::Out),
         1 => Some(Direction::In),
-        _ => None,
-    }
-}
-
-/// The time that the bytes spell: none, or one that isn't 0 and all of them.
-#[tactic(auto, unfolding(crate::specs::Body::seen_in))]
-fn seen_in(bytes: &[u8]) -> Option<u64>
-    ensures { result ≡ seen_in bytes.now }
-{
-    if bytes.is_empty() {
-        return Some(0);
-    }
-    match first_u64(bytes)? {
-        (0, _) => None,
-        (seen, []) => Some(seen),
         _ => None,
     }
 }

@@ -3,7 +3,7 @@ use crate::tracker::{first_record, record_after};
 use crate::{body, text};
 use basics::{Bytes, NoMemory, Text};
 use flow_filter::{Direction, Flow, Packet, Site};
-use nf_function::{BodyFault, Function, Kind, Output, Unit, is_transport};
+use nf_function::{BodyFault, Function, Kind, Output, ShortBody, Unit, is_transport};
 use std::alloc::Global;
 use std::cmp::Ordering;
 
@@ -44,15 +44,23 @@ impl Function for Conntrack {
     }
 
     fn body_length(kept: &TrackRecord) -> u16 {
-        body::body_length(kept)
+        body::numbers_of(kept).length()
     }
 
     fn push_body(bytes: &mut Bytes, kept: &TrackRecord) -> Result<(), NoMemory> {
-        body::push_body(bytes, kept)
+        body::numbers_of(kept).push_to(bytes)
     }
 
     fn read_record(_alloc: Global, unit: &Unit, body: &[u8]) -> Result<TrackRecord, BodyFault> {
         body::record_in(unit, body).ok_or(BodyFault::Body)
+    }
+
+    fn short_body(kept: &TrackRecord) -> Option<ShortBody> {
+        Some(body::numbers_of(kept))
+    }
+
+    fn read_short(_alloc: Global, unit: &Unit, body: &ShortBody) -> Result<TrackRecord, BodyFault> {
+        body::short_record(unit, *body).ok_or(BodyFault::Body)
     }
 
     fn newer(a: &TrackRecord, b: &TrackRecord) -> bool {

@@ -14,7 +14,7 @@ use nf_function::{Chunk, Chunks, Function, Units};
 use nf_msgs::{Answer, CONTROLLER, KeptUnits, Msg, Note, Piece, Refused, units_in};
 use record_table::ImportFault;
 use state_chunk::header::PLAIN;
-use state_chunk::{ChunkFault, decode_tally};
+use state_chunk::{ChunkFault, decode_tally_chunk};
 
 impl<F: Function> Instance<F> {
     /// Takes a piece of a move's records as live, or refuses it where it is the first.
@@ -174,7 +174,7 @@ impl<F: Function> Instance<F> {
         ensures sends { OnOk result (out.new.0 ≡ out.old.0 ++ (on_put_all F.semantics self.old op chunk.now).sends) }
         ensures notes { OnOk result (out.new.1 ≡ out.old.1 ++ (on_put_all F.semantics self.old op chunk.now).notes) }
     {
-        match decode_tally(F::which(), chunk.bytes.items()) {
+        match decode_tally_chunk(self.alloc, F::which(), &chunk.bytes) {
             Ok(tally) => {
                 self.tally.merge(&tally);
                 out.send(CONTROLLER, Msg::Kept { op })

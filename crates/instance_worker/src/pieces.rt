@@ -65,10 +65,7 @@ fn newest_version(chunks: &[Chunk]) -> u8
 fn version_of(chunk: &Chunk) -> u8
     ensures { result ≡ version_of chunk.now }
 {
-    match chunk.bytes.items() {
-        [version, ..] => *version,
-        [] => 0,
-    }
+    chunk.bytes.first().unwrap_or(0)
 }
 
 /// Takes the chunks of one piece from the front of those that are left.

@@ -59,7 +59,8 @@ transport_tests flow = record {
   rport = nat_lt flow.rport (2 ^ 16);
 }
 
-is_transport_flow-from : (flow : Flow) → is_transport flow.proto ≡ true → IsFlow flow → is_transport_flow flow ≡ true
+-- a flow of TCP or UDP whose numbers are within their types
+pub is_transport_flow-from : (flow : Flow) → is_transport flow.proto ≡ true → IsFlow flow → is_transport_flow flow ≡ true
 is_transport_flow-from flow transport fits = all_from (transport_tests flow) (record {
   proto = transport;
   local = let h = fits.local in grind (arith, nat_tests);

@@ -3,6 +3,8 @@ pub mod UnitSteps
 pub mod Names
 pub mod UnitOrder
 pub mod Stored
+pub mod Short
+pub mod Forms
 pub mod Semantics
 pub mod Records
 pub mod Tally

@@ -1,13 +1,15 @@
 //! The trait of network functions, with what contracts ask of each of them.
-ghost use Rattle.std.specs.Prelude.{◌≡◌, ◌++◌, true, false, length, IsOk, IfOk, OnOk, OnErr};
+ghost use Rattle.std.specs.Prelude.{◌≡◌, ◌++◌, true, false, length, IsOk, IfOk, IfSome, OnOk, OnErr};
 ghost use Rattle.flow_filter.specs.Flow.{flow_of};
 ghost use Rattle.nf_function.specs.declared.function.BodyFault.TheVariants.{NoMemory as OutOfMemory};
+ghost use Rattle.nf_function.specs.Short.{short_bytes};
 ghost use Rattle.nf_function.specs.Units.{unit_of};
 ghost use Rattle.nf_function.specs.Semantics.{Semantics, kept_after, output_for, is_sound, record_in};
 ghost use Rattle.nf_function.specs.Records.{Reads, is_newer, IsRecordOrder, StepsMakeNewer, Laws};
 
 use crate::kind::Kind;
 use crate::output::Output;
+use crate::short::ShortBody;
 use crate::unit::Unit;
 use basics::{Bytes, NoMemory, Text};
 use flow_filter::{Direction, Flow, Packet, Site, flow_of};
@@ -91,6 +93,14 @@ pub trait Function {
     /// The record of the unit that the bytes spell.
     fn read_record(alloc: Global, unit: &Unit, body: &[u8]) -> Result<Self::Record, BodyFault>
         ensures { Reads result (record_in semantics unit.now body.now) };
+
+    /// The numbers that a record is stored as, where two bytes and three numbers spell it.
+    fn short_body(kept: &Self::Record) -> Option<ShortBody>
+        ensures { IfSome result (λ body. short_bytes body ≡ semantics.body_of kept.now) };
+
+    /// The record of the unit that the bytes of the numbers spell.
+    fn read_short(alloc: Global, unit: &Unit, body: &ShortBody) -> Result<Self::Record, BodyFault>
+        ensures { Reads result (record_in semantics unit.now (short_bytes body.now)) };
 
     /// Whether the first record has more packets than the second, or as many and a greater body.
     fn newer(a: &Self::Record, b: &Self::Record) -> bool

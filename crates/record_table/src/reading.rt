@@ -10,7 +10,7 @@ use crate::record_map::RecordMap;
 use crate::refusal::ImportFault;
 use basics::NoMemory;
 use nf_function::{Chunk, Chunks, Function, Unit};
-use state_chunk::{ChunkFault, decode};
+use state_chunk::{ChunkFault, decode_chunk};
 use std::alloc::Global;
 
 /// Why chunks give no records.
@@ -143,7 +143,7 @@ fn spelled<F: Function>(alloc: Global, chunk: &Chunk) -> Result<Option<(Unit, F:
     ensures found { IfOk result (λ found. found ≡ spelled F.semantics chunk.now) }
     ensures valid { IfOk result (λ found. IfSome found (λ x. F.semantics.is_valid x.0 x.1 ≡ true)) }
 {
-    match decode::<F>(alloc, chunk.bytes.items()) {
+    match decode_chunk::<F>(alloc, &chunk.bytes) {
         Ok(found) => Ok(Some(found)),
         Err(ChunkFault::NoMemory) => Err(NoMemory),
         Err(_) => Ok(None),

@@ -1,5 +1,6 @@
 -- A record's chunk is read again, and has one spelling.
-use Rattle.std.proofs.Common.{◌≡◌, ◌∙◌, eqb, ℕ, Bool, true, false, List, [], ◌∷◌, ◌++◌, length, Option, None, Some, Ok, refl, sym, ap, arith, append-nil}
+use Rattle.std.proofs.Common.{◌≡◌, ◌∙◌, eqb, ℕ, Bool, true, false, List, [], ◌∷◌, ◌++◌, length, Option, None, Some}
+use Rattle.std.proofs.Common.{Result, Ok, Err, IfOk, refl, sym, ap, arith, append-nil}
 use Rattle.std.proofs.lemmas.Bool.Decides.{nat_tests}
 use Rattle.std.proofs.lemmas.List.{append_assoc}
 use Rattle.nf_function.specs.declared.unit.Unit as units
@@ -7,12 +8,17 @@ use Rattle.nf_function.specs.Stored.{IsBytes, number_bytes}
 use Rattle.nf_function.specs.Units.{has_times}
 use Rattle.nf_function.specs.Semantics.{Semantics, record_in}
 use Rattle.nf_function.specs.Records.{Laws}
+use Rattle.state_chunk.specs.declared.fault.ChunkFault.{ChunkFault}
 use Rattle.state_chunk.specs.declared.fault.ChunkFault.TheVariants as fault
 use Rattle.state_chunk.specs.Format.{kind_number, scope_number, version_number, record_scope, key_bytes, record_bytes, IsRecordOf}
-use Rattle.state_chunk.specs.Reading.{part, header_of, first_key, is_known, body_in, record_of_version, record_read}
+use Rattle.state_chunk.specs.Reading.{part, header_of, first_key, is_known, body_in, record_of_version, record_read, DecodesTo}
 use Rattle.state_chunk.proofs.ReadLemmas.{then_ok, part_ok, checked_ok, ended_ok}
 use Rattle.state_chunk.proofs.KeyLemmas.{first_key-key_bytes, known_unit, first_key-some}
 use Rattle.state_chunk.proofs.PartLemmas.{header_1, header_2, header_of-ok, body_in-bytes, body_in-ok}
+
+-- the parts after the header, with nothing after them
+pub regrouped : (a b c : List ℕ) → (a ++ b) ++ c ≡ a ++ (b ++ (c ++ []))
+regrouped a b c = rw (append-nil c) (append_assoc a b c)
 
 module _ {R : Type 0} (f : Semantics R) (laws : Laws f) where
   -- the version that a record needs is read
@@ -30,9 +36,6 @@ module _ {R : Type 0} (f : Semantics R) (laws : Laws f) where
   parts_of u r =
       ap (λ (more : List ℕ). version_number (f.is_timed r) ∷ kind_number f.kind ∷ scope_number (record_scope f.kind) ∷ more)
       (regrouped (key_bytes u) (number_bytes 2 (length (f.body_of r))) (f.body_of r))
-    where
-      regrouped : (a b c : List ℕ) → (a ++ b) ++ c ≡ a ++ (b ++ (c ++ []))
-      regrouped a b c = rw (append-nil c) (append_assoc a b c)
 
   pub record_read-record_bytes : (u : units.Unit) (r : R) → f.is_valid u r ≡ true → record_read f (record_bytes f u r) ≡ Ok (u, r)
   unfolding record_read
@@ -89,3 +92,8 @@ module _ {R : Type 0} (f : Semantics R) (laws : Laws f) where
         spelled = joined u r header.0 bytes header.1 key.1 body.0 (rw (← is_record) is.1) head.0.spelled (rw (← is_unit) unit.spelled) body_is
             (rw (← is_record) known.1);
       }))))
+
+  pub record_found : (bytes : List ℕ) (result : Result (units.Unit × R) ChunkFault) → IsBytes bytes
+      → DecodesTo (λ x. x) result (record_read f bytes) → IfOk result (λ x. IsRecordOf f bytes x.0 x.1)
+  record_found bytes (Ok x) are given = record_read-ok bytes x.0 x.1 are given
+  record_found bytes (Err e) are given = tt

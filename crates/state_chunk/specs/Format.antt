@@ -1,5 +1,5 @@
 -- The bytes of a chunk. This project's own format, from the front: version (1 byte), kind (1), scope (1), key, length of
--- the body (2), body. Numbers are big-endian.
+-- the body (2), body. Numbers are big-endian. A key is as `key_bytes` spells it.
 use Rattle.std.specs.Prelude.{◌≡◌, ℕ, ◌<◌, ◌^◌, ◌++◌, Bool, true, if◌then◌else◌, List, [], ◌∷◌, length, slice_index, None, Some}
 use Rattle.std.specs.List.{flat_map}
 use Rattle.nf_function.specs.declared.chunk.Chunk.{Chunk}
@@ -8,11 +8,11 @@ use Rattle.nf_function.specs.declared.kind.Kind.TheVariants.{Conntrack, Nat, Mon
 use Rattle.nf_function.specs.declared.kind.Scope.{Scope}
 use Rattle.nf_function.specs.declared.kind.Scope.TheVariants.{PerFlow, MultiFlow, AllFlows}
 use Rattle.nf_function.specs.declared.unit.Unit as units
-use Rattle.nf_function.specs.declared.unit.Unit.TheVariants.{Flow as OfFlow, Host as OfHost}
 use Rattle.nf_function.specs.Stored.{number_bytes, plain_version, timed_version}
 use Rattle.nf_function.specs.Units.{has_hosts}
 use Rattle.nf_function.specs.Semantics.{Semantics}
 use Rattle.flow_filter.specs.Limits.{most_instances}
+unfoldable pub use Rattle.nf_function.specs.Forms.{key_bytes}
 
 abbrev pub kind_number : Kind → ℕ
 kind_number Conntrack = 1
@@ -31,12 +31,6 @@ version_number timed = if timed then timed_version else plain_version
 -- the scope of a function's records
 abbrev pub record_scope : Kind → Scope
 record_scope kind = if has_hosts kind then MultiFlow else PerFlow
-
--- the key of a flow: proto (1 byte), local (4), lport (2), remote (4), rport (2); that of a host: local (4)
-unfoldable pub key_bytes : units.Unit → List ℕ
-key_bytes (OfFlow f) =
-    (f.proto ∷ []) ++ number_bytes 4 f.local ++ number_bytes 2 f.lport ++ number_bytes 4 f.remote ++ number_bytes 2 f.rport
-key_bytes (OfHost host) = number_bytes 4 host
 
 -- the bytes of a unit's record
 unfoldable pub record_bytes : {R : Type 0} → Semantics R → units.Unit → R → List ℕ

@@ -1,3 +1,4 @@
+use basics::NoMemory;
 use nf_function::BodyFault;
 use thiserror::Error;
 
@@ -38,5 +39,16 @@ impl From<BodyFault> for ChunkFault {
             BodyFault::Body => ChunkFault::Body,
             BodyFault::NoMemory => ChunkFault::NoMemory,
         }
+    }
+}
+
+impl From<NoMemory> for ChunkFault {
+    ghost use Rattle.std.specs.Prelude.{◌≡◌};
+    ghost use Rattle.state_chunk.specs.declared.fault.ChunkFault.TheVariants.{NoMemory as OutOfMemory};
+
+    ghost from_gives = { λ _ e. e ≡ OutOfMemory };
+
+    fn from(_e: NoMemory) -> ChunkFault {
+        ChunkFault::NoMemory
     }
 }

@@ -1,15 +1,34 @@
-//! The first part of a record's chunk: what stands before its body.
-ghost use Rattle.std.specs.Prelude.{◌≡◌, ◌++◌, OnOk};
+//! The first part of a record's chunk, which stands before its body, and the bytes of a chunk that is held as numbers.
+ghost use Rattle.std.specs.Prelude.{◌≡◌, ◌++◌, IfOk, OnOk};
+ghost use Rattle.nf_function.specs.Forms.{packed_bytes};
 ghost use Rattle.nf_function.specs.Stored.{number_bytes};
 ghost use Rattle.nf_function.specs.declared.unit.Unit.TheVariants.{Flow as OfFlow};
 ghost use Rattle.state_chunk.specs.Format.{key_bytes};
 
 use basics::{Bytes, NoMemory};
 use flow_filter::Flow;
-use nf_function::Unit;
+use nf_function::{Packed, Unit};
+use std::alloc::Global;
 
 /// How many bytes the longest first part has.
 pub const LONGEST_FRONT: usize = 18;
+
+/// The bytes that the numbers of a flow's chunk spell.
+#[tactic(auto, unfolding(nf_function::specs::Forms::packed_bytes))]
+pub fn packed_bytes(alloc: Global, numbers: &Packed) -> Result<Bytes, NoMemory>
+    ensures { IfOk result (λ bytes. bytes ≡ packed_bytes numbers.now) }
+{
+    let mut bytes = Bytes::open(alloc);
+    let head = [numbers.version, numbers.kind, numbers.scope];
+    push_front(
+        &mut bytes,
+        head,
+        &Unit::Flow(numbers.flow),
+        numbers.body.length(),
+    )?;
+    numbers.body.push_to(&mut bytes)?;
+    Ok(bytes)
+}
 
 /// Puts three bytes, the key of a unit and the length of a body after other bytes, at once.
 #[inline]

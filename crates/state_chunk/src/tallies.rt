@@ -1,3 +1,4 @@
+//! The stored bytes of tallies: how they are written, and how they are read with the first fault.
 ghost use Rattle.std.specs.Prelude.{◌≡◌, ◌++◌, Ok, length, OnOk, IfOk};
 ghost use Rattle.std.specs.List.{flat_map};
 ghost use Rattle.nf_function.specs.Stored.{number_bytes};
@@ -6,11 +7,12 @@ ghost use Rattle.state_chunk.specs.Reading.{tally_read, numbers_in, slots_of, De
 ghost use Rattle.flow_filter.specs.Limits.{most_instances};
 
 use crate::fault::ChunkFault;
+use crate::front::packed_bytes;
 use crate::header::{PLAIN, body_in, header_of, kind_number, scope_number};
 use basics::{Bytes, NoMemory};
 use byteorder::{BigEndian, ByteOrder};
 use nf_function::stored::push_u16;
-use nf_function::{Chunk, Kind, Scope, Tally};
+use nf_function::{Chunk, ChunkBytes, Form, Kind, Scope, Tally};
 use std::alloc::Global;
 
 /// How many bytes the body of a tally has.
@@ -28,7 +30,7 @@ pub fn encode_tally(alloc: Global, kind: Kind, tally: &Tally) -> Result<Chunk, N
     Ok(Chunk {
         scope: Scope::AllFlows,
         unit: None,
-        bytes,
+        bytes: ChunkBytes::spelled(bytes),
     })
 }
 
@@ -54,7 +56,22 @@ fn push_slots(bytes: &mut Bytes, slots: &[u64; 16]) -> Result<(), NoMemory>
     bytes.push_bytes(&spelled)
 }
 
-/// The tally of a chunk, or the fault of its first part from the front that is missing or wrong.
+/// As [`decode_tally`], of the bytes as a chunk holds them.
+pub fn decode_tally_chunk(
+    alloc: Global,
+    kind: Kind,
+    bytes: &ChunkBytes,
+) -> Result<Tally, ChunkFault>
+    ensures value { DecodesTo (λ tally. tally.slots) result (tally_read kind bytes.now) }
+    ensures spelled { IfOk result (λ tally. bytes.now ≡ tally_bytes kind tally.slots) }
+{
+    match bytes.form() {
+        Form::Spelled(bytes) => decode_tally(kind, bytes.items()),
+        Form::Packed(numbers) => decode_tally(kind, packed_bytes(alloc, numbers)?.items()),
+    }
+}
+
+/// The tally of bytes, or the fault of their first part from the front that is missing or wrong.
 pub fn decode_tally(kind: Kind, bytes: &[u8]) -> Result<Tally, ChunkFault>
     ensures value { DecodesTo (λ tally. tally.slots) result (tally_read kind bytes.now) }
 

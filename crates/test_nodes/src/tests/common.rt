@@ -1,9 +1,9 @@
 //! What several of these tests use: messages by their words, and what was sent as a text.
 use actor_net::Outbox;
-use basics::{Boxed, NoMemory, Text};
+use basics::{Boxed, Bytes, NoMemory, Text};
 use event_filter::Mark;
 use flow_filter::{Filter, Packet};
-use nf_function::{Chunk, Chunks, Scope};
+use nf_function::{Chunk, ChunkBytes, Chunks, Scope};
 use nf_msgs::{Answer, Command, Msg, Note, Order, Piece, Refused, print_answer, show};
 use std::alloc::Global;
 use std::test::Fail;
@@ -114,7 +114,7 @@ fn chunk(alloc: Global) -> Chunk {
     Chunk {
         scope: Scope::PerFlow,
         unit: None,
-        bytes: Text::open(alloc),
+        bytes: ChunkBytes::spelled(Bytes::open(alloc)),
     }
 }
 

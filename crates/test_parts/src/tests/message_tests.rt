@@ -3,7 +3,7 @@ use crate::tests::common::assert_text;
 use basics::{Boxed, Bytes, NoMemory, Text};
 use event_filter::Mark;
 use flow_filter::Name;
-use nf_function::{Chunk, Chunks, Scope, Unit};
+use nf_function::{Chunk, ChunkBytes, Chunks, Scope, Unit};
 use nf_msgs::{Answer, KeptUnits, Msg, Note, Piece, print_answer, show};
 use packet_pool::Pool;
 use std::alloc::Global;
@@ -167,7 +167,7 @@ fn push_each(chunks: &mut Chunks, alloc: Global, units: &[Option<Unit>]) -> Resu
         chunks.push(Chunk {
             scope: Scope::PerFlow,
             unit: *unit,
-            bytes: Bytes::open(alloc),
+            bytes: ChunkBytes::spelled(Bytes::open(alloc)),
         })?;
     }
     Ok(())

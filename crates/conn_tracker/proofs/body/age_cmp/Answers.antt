@@ -1,13 +1,14 @@
 -- The fields are compared in the order of the body.
 use Rattle.std.proofs.Common.{arith}
-use Rattle.conn_tracker.specs.BodyLemmas.{Within}
+use Rattle.nf_function.proofs.ShortLemmas.{IsWithin}
+use Rattle.conn_tracker.specs.Body.{numbers_of}
 use Rattle.conn_tracker.proofs.BodyOrder.{age_by_fields}
 use Rattle.conn_tracker.proofs.body.age_cmp.Goals as goal
 
 pub returns : goal.returns
 returns c =
-    let a : Within c.args.a = record { packets = omega arith; bytes = omega arith; seen = omega arith } in
-    let b : Within c.args.b = record { packets = omega arith; bytes = omega arith; seen = omega arith } in
+    let a : IsWithin (numbers_of c.args.a) = record { third = omega arith; fourth = omega arith; last = omega arith } in
+    let b : IsWithin (numbers_of c.args.b) = record { third = omega arith; fourth = omega arith; last = omega arith } in
     rw (
       age_by_fields c.args.a c.args.b a b,
       c.then-2.ensures,
