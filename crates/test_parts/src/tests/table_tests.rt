@@ -2,7 +2,7 @@
 use basics::NoMemory;
 use conn_tracker::{Conntrack, State, TrackRecord};
 use flow_filter::{Direction, Filter, Flow};
-use nf_function::{Chunks, Unit, Units};
+use nf_function::{Chunk, ChunkBytes, Chunks, Packed, Scope, ShortBody, Unit, Units};
 use record_table::{ImportFault, Table};
 use std::alloc::Global;
 use std::process::Abort;
@@ -108,6 +108,46 @@ fn assert_imported(
         kept.units(true)?.items(),
         [unit(1), unit(2), unit(3), unit(4), unit(5)].as_slice()
     );
+    Ok(())
+}
+
+/// A chunk that holds the numbers of the record that the first packet of a flow leaves.
+fn first_record(alloc: Global, flow: Flow) -> Result<Chunks, NoMemory> {
+    let mut chunks = Chunks::open(alloc);
+    let body = ShortBody {
+        third: 1,
+        fourth: 20,
+        last: 0,
+        first: 8,
+        second: 0,
+    };
+    chunks.push(Chunk {
+        scope: Scope::PerFlow,
+        unit: Some(Unit::Flow(flow)),
+        bytes: ChunkBytes::packed(Packed {
+            body,
+            flow,
+            version: 1,
+            kind: 1,
+            scope: 1,
+        }),
+    })?;
+    Ok(chunks)
+}
+
+/// Whether a table refuses chunks, the first of them as a bad one.
+fn is_bad(taken: Result<(), ImportFault>) -> bool {
+    matches!(taken, Err(ImportFault::Bad { index: 0, .. }))
+}
+
+#[test]
+fn a_chunk_of_numbers_is_taken_or_refused_as_its_bytes_are(rt: HostRuntime) -> Result<(), Fail> {
+    let mut kept = table(rt.alloc(), &[2])?;
+    let ping = first_record(rt.alloc(), Flow { proto: 1, ..FLOW })?;
+    let coming = first_record(rt.alloc(), FLOW)?;
+    assert!(rt; is_bad(kept.restore(ping)));
+    assert!(rt; !is_bad(kept.restore(coming)));
+    assert_eq!(rt; kept.record(&Unit::Flow(FLOW), true).copied(), Some(record(1)));
     Ok(())
 }
 
