@@ -147,7 +147,10 @@ fn a_chunk_of_numbers_is_taken_or_refused_as_its_bytes_are(rt: HostRuntime) -> R
     let coming = first_record(rt.alloc(), FLOW)?;
     assert!(rt; is_bad(kept.restore(ping)));
     assert!(rt; !is_bad(kept.restore(coming)));
-    assert_eq!(rt; kept.record(&Unit::Flow(FLOW), true).copied(), Some(record(1)));
+    assert_eq!(rt;
+        kept.record(&Unit::Flow(FLOW), true).copied(),
+        Some(record(1))
+    );
     Ok(())
 }
 
