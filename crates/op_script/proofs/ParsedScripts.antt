@@ -26,7 +26,8 @@ use Rattle.basics.proofs.SplitLemmas.{split-Some}
 use Rattle.op_script.specs.declared.fault.ScriptKind.TheVariants as bad
 use Rattle.op_script.proofs.StatementLemmas.{IsEvent, IsStatement, statement_right}
 use Rattle.op_script.proofs.JudgedLemmas.{judged_some, steps, unless_Ok, wanted_Ok}
-use Rattle.op_script.proofs.ScriptLineLemmas.{All-append, last_at, last_at-append, follows-append, numbered_next}
+use Rattle.std.proofs.lemmas.List.Sums.{fold-append}
+use Rattle.op_script.proofs.ScriptLineLemmas.{All-append, last_at, follows-append, numbered_next}
 
 -- a filter that was read has a text, and splits no unit
 filter_right : (kind : Kind) (text : Word) (f : Fields) → filter_of kind text ≡ Ok f → (is_transport f.proto ≡ true) × (splits kind f ≡ false)
@@ -164,7 +165,7 @@ module _ (kind : Kind) (names : List Word) where
           routes = kept.whole.routes;
           lines = All-append (λ (line : LineView). what_splits kind line.what ≡ false) s.lines (line ∷ []) kept.whole.lines (told.1, tt);
         };
-        last = last_at-append 0 s.lines line;
+        last = fold-append (λ before said. said.at) 0 s.lines (line ∷ []);
       })
     where
       far_enough : (last : Option ℕ) (at : ℕ) → goes_back last at ≡ false → unwrap_or last 0 ≤ at

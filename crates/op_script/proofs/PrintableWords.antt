@@ -14,14 +14,14 @@ use Rattle.flow_filter.specs.Name.{is_name, is_name_byte}
 use Rattle.basics.proofs.DecimalLemmas.{AreDigits, own}
 use Rattle.op_script.specs.Statements.{Word, words}
 use Rattle.op_script.specs.WordSteps.{is_blank}
+use Rattle.op_script.proofs.ScriptLineLemmas.{All-append}
 
 -- each byte lies between two bounds
 abbrev pub Within : ℕ → ℕ → List ℕ → Type 0
 Within low high text = AllByRecursion (λ b. (low ≤ b) × (b < high)) text
 
 pub Within-append : (low high : ℕ) (a b : List ℕ) → Within low high a → Within low high b → Within low high (a ++ b)
-Within-append low high [] b in_a in_b = in_b
-Within-append low high (x ∷ a) b in_a in_b = (in_a.0, Within-append low high a b in_a.1 in_b)
+Within-append low high a b in_a in_b = All-append (λ x. (low ≤ x) × (x < high)) a b in_a in_b
 
 pub Within-wider : (low high low' high' : ℕ) (a : List ℕ) → low' ≤ low → high ≤ high' → Within low high a → Within low' high' a
 Within-wider low high low' high' [] less more in_a = tt
@@ -30,8 +30,7 @@ Within-wider low high low' high' (x ∷ a) less more in_a =
 
 -- the same, as a test, for texts that are written out
 abbrev pub within : ℕ → ℕ → List ℕ → Bool
-within low high [] = true
-within low high (b ∷ more) = leb low b && ltb b high && within low high more
+within low high text = list_all (λ b. leb low b && ltb b high) text
 
 pub Within-literal : (low high : ℕ) (text : List ℕ) → within low high text ≡ true → Within low high text
 Within-literal low high [] test = tt

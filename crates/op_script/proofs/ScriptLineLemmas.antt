@@ -1,6 +1,6 @@
 -- Lines that follow one another, and one line more.
 use Rattle.std.proofs.Common.{◌≡◌, ℕ, ◌+◌, ◌≤◌, Bool, true, false, cond, eqb, leb, List, [], ◌∷◌, ◌++◌, Option, None, Some, is_some, refl, ◌∙◌, arith}
-use Rattle.std.specs.List.{AllByRecursion}
+use Rattle.std.specs.List.{AllByRecursion, fold}
 use Rattle.std.proofs.lemmas.Bool.{and_parts, and_from, le-leb, eq-eqb}
 use Rattle.std.proofs.lemmas.List.Sums.{sum_by-append, sum_by-cons}
 use Rattle.op_script.specs.Reading.{OrderView, LineView}
@@ -13,12 +13,7 @@ All-append P (x ∷ xs) ys in_xs in_ys = (in_xs.0, All-append P xs ys in_xs.1 in
 
 -- the point of the last line
 abbrev pub last_at : ℕ → List LineView → ℕ
-last_at at [] = at
-last_at at (line ∷ more) = last_at line.at more
-
-pub last_at-append : (at : ℕ) (lines : List LineView) (line : LineView) → last_at at (lines ++ line ∷ []) ≡ line.at
-last_at-append at [] line = refl
-last_at-append at (first ∷ more) line = last_at-append first.at more line
+last_at at lines = fold (λ before line. line.at) at lines
 
 -- what happens has the number that is next
 abbrev pub IsNext : ℕ → Option (ℕ × OrderView) → Type 0
