@@ -1,5 +1,6 @@
 pub mod FoundPackets
 pub mod LogLemmas
+pub mod NamedNodes
 pub mod NodeTables
 pub mod NumberCounts
 pub mod PickedLists

@@ -1,11 +1,16 @@
--- Where nothing waits between any two nodes, all links are empty, and what they hold weighs nothing. Generic in the actor.
+-- Where nothing waits between any two nodes, all links are empty, and what they hold weighs nothing; and where no choice is enabled, the input is empty if
+-- node 0 takes each message. Generic in the actor.
 use Rattle.std.proofs.Common.{◌≡◌, ℕ, suc, ◌+◌, ◌*◌, ◌/◌, ◌%◌, ◌<◌, Bool, true, false, List, [], ◌∷◌, length, get_or, refl, sym, ap, ◌∙◌, subst, arith}
+use Rattle.std.proofs.Common.{Some, inl, inr}
 use Rattle.std.specs.Prelude.{if◌then◌else◌, ◌==◌, ◌&&◌}
 use Rattle.std.specs.List.{list_all}
 use Rattle.std.proofs.lemmas.Bool.Decides.{nat_tests}
 use Rattle.std.proofs.lemmas.Nat.{div-add-mod'}
 use Rattle.std.proofs.Math.Nat.{mod-lt, div-lt_iff_lt-mul}
+use Rattle.std.proofs.lemmas.Option.{slice_get-get_or}
 use Rattle.actor_net.specs.Network.{Network, IsWorld, queue_at, is_done}
+use Rattle.actor_net.specs.Schedules.{enabled_choices}
+use Rattle.actor_net.proofs.DisabledChoices.{stuck_input}
 use Rattle.actor_net.proofs.EnabledChoices.{at}
 use Rattle.actor_net.proofs.WaitingMessages.{waiting_is}
 use Rattle.actor_net.proofs.WeightLaws.{weigh, total}
@@ -55,3 +60,14 @@ module _ {A M N : Type 0} (w : Network A M N) (world : IsWorld w) (silent : (s r
 
   pub all_done : (ended : A → Bool) → w.input ≡ [] → list_all ended w.nodes ≡ true → is_done ended w ≡ true
   all_done ended input nodes = let links = links_empty in rw (input, links, nodes) refl
+
+pub empty_input : {A M N : Type 0} (ready : A → M → Bool) (w : Network A M N) → IsWorld w → enabled_choices ready w ≡ [] → (node : A)
+    → get_or w.nodes 0 node ≡ node → ((m : M) → ready node m ≡ true) → w.input ≡ []
+empty_input ready w world none node here takes = elim (stuck_input ready w world none) as (λ _. w.input ≡ []) [
+  | inl empty ↦ empty
+  | inr unready ↦
+      let there : Some node ≡ Some unready.node = sym (slice_get-get_or w.nodes 0 node world.some_node ∙ ap Some here) ∙ unready.node_is in
+      let same : node ≡ unready.node = cc in
+      let both : true ≡ false = sym (takes unready.message) ∙ subst (λ x. ready x unready.message ≡ false) (sym same) unready.refused in
+      cc
+]
