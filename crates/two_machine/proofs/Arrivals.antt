@@ -1,6 +1,6 @@
 -- What each step notes of arrivals, and where the input and its end are.
-use Rattle.two_machine.proofs.Words.{◌≡◌, ℕ, Bool, true, false, List, [], ◌∷◌, ◌++◌, refl, sym, ap, ◌∙◌, append-nil, if◌then◌else◌, ◌==◌, Free, Target, To_a}
-use Rattle.two_machine.proofs.Words.{To_both, To_b, System, Msg, Switch, Ctrl, Inst, In_packet, In_start, In_end, Start, End, Copied, Laid, Forward, Lay}
+use Rattle.two_machine.proofs.Words.{◌≡◌, ℕ, Bool, true, false, List, [], ◌∷◌, ◌++◌, refl, ap, ◌∙◌, append-nil, if◌then◌else◌, ◌==◌, Free, Target, To_a}
+use Rattle.two_machine.proofs.Words.{To_both, System, Msg, Note, Switch, Ctrl, Inst, In_packet, In_start, In_end, Start, End, Copied, Laid, Forward, Lay}
 use Rattle.two_machine.proofs.Words.{Finish, Carry, Stop, Fence, Credit, goes, switch_step, processed, all_processed, inst_step, ctrl_step, takes_in, Step}
 use Rattle.two_machine.proofs.Words.{World, Observer, read, read-append, arrived, item, Place, Cs, In, Sc, Aw, Bw, Ac, Bc, Sa, Ca, Sb, Cb, choice, with_waits}
 use Rattle.two_machine.proofs.Words.{comes, IsSelected, OnBack, Label, sent, result, copied, Each, each-append}
@@ -52,7 +52,7 @@ pub data EndAt {T C O : Type 0} (v : World T C O) : Type 0 where
   Has_come : v.input ≡ [] → Each NotEnd v.sc → v.ct.ended ≡ true → EndAt v
 
 module _ {U T C R O : Type 0} (S : System U T C R O) where
-  pub quiet_copied : (o : Observer U) (xs : List (Msg C)) → Each (Label S Sc) xs → Each Quiet xs → copied (read (item S o) xs) ≡ []
+  pub quiet_copied : (o : Observer U) (xs : List (Msg C)) → Each (Label S Sc) xs → Each Quiet xs → read copied (read (item S o) xs) ≡ []
   quiet_copied o [] l h = refl
   quiet_copied o (Start ∷ xs) l h = quiet_copied o xs l.1 h.1
   quiet_copied o (Laid high ∷ xs) l h = quiet_copied o xs l.1 h.1
@@ -99,21 +99,21 @@ module _ {U T C R O : Type 0} (S : System U T C R O) where
   Ready In v m = takes_in S v.sw m ≡ true
   Ready pl v m = Unit {0}
 
+  noted : (v : World T C O) (ns : List (Note O)) {ps : List ℕ} → read arrived ns ≡ ps → read arrived (v.log ++ ns) ≡ read arrived v.log ++ ps
+  noted v ns is = read-append arrived v.log ns ∙ ap (λ xs. read arrived v.log ++ xs) is
+
   pub arrivals : (pl : Place) (v : World T C O) (m : Msg C) (rest : List (Msg C)) → Label S pl m → Ready pl v m → IsSelected S v.ct.kept
       → read arrived (result S pl (with_waits S pl rest v) m).log ≡ read arrived v.log ++ comes pl m
-  arrivals In v m rest h ready k = read-append arrived v.log (switch_step S v.sw m).notes ∙ ap (λ xs. read arrived v.log ++ xs) (in_notes v.sw m h ready)
-  arrivals Cs v m rest h ready k = read-append arrived v.log (switch_step S v.sw m).notes ∙ ap (λ xs. read arrived v.log ++ xs) (cs_notes v.sw m h)
-  arrivals Sc v m rest h ready k =
-      read-append arrived v.log (ctrl_step S v.ct 0 m).notes ∙ ap (λ xs. read arrived v.log ++ xs) (ctrl_ok S v.ct 0 m k (gives S Sc m h)).quiet
-  arrivals Ac v m rest h ready k =
-      read-append arrived v.log (ctrl_step S v.ct 2 m).notes ∙ ap (λ xs. read arrived v.log ++ xs) (ctrl_ok S v.ct 2 m k (gives S Ac m h)).quiet
-  arrivals Bc v m rest h ready k =
-      read-append arrived v.log (ctrl_step S v.ct 3 m).notes ∙ ap (λ xs. read arrived v.log ++ xs) (ctrl_ok S v.ct 3 m k (gives S Bc m h)).quiet
-  arrivals Sa v m rest h ready k = read-append arrived v.log (inst_step S 0 v.a m).notes ∙ ap (λ xs. read arrived v.log ++ xs) (inst_notes 0 v.a m)
-  arrivals Ca v m rest h ready k = read-append arrived v.log (inst_step S 0 v.a m).notes ∙ ap (λ xs. read arrived v.log ++ xs) (inst_notes 0 v.a m)
-  arrivals Sb v m rest h ready k = read-append arrived v.log (inst_step S 1 v.b m).notes ∙ ap (λ xs. read arrived v.log ++ xs) (inst_notes 1 v.b m)
-  arrivals Cb v m rest h ready k = read-append arrived v.log (inst_step S 1 v.b m).notes ∙ ap (λ xs. read arrived v.log ++ xs) (inst_notes 1 v.b m)
-  arrivals x v m rest h ready k = read-append arrived v.log (switch_step S v.sw m).notes ∙ ap (λ xs. read arrived v.log ++ xs) (back_notes v.sw m h)
+  arrivals In v m rest h ready k = noted v (switch_step S v.sw m).notes (in_notes v.sw m h ready)
+  arrivals Cs v m rest h ready k = noted v (switch_step S v.sw m).notes (cs_notes v.sw m h)
+  arrivals Sc v m rest h ready k = noted v (ctrl_step S v.ct 0 m).notes (ctrl_ok S v.ct 0 m k (gives S Sc m h)).quiet
+  arrivals Ac v m rest h ready k = noted v (ctrl_step S v.ct 2 m).notes (ctrl_ok S v.ct 2 m k (gives S Ac m h)).quiet
+  arrivals Bc v m rest h ready k = noted v (ctrl_step S v.ct 3 m).notes (ctrl_ok S v.ct 3 m k (gives S Bc m h)).quiet
+  arrivals Sa v m rest h ready k = noted v (inst_step S 0 v.a m).notes (inst_notes 0 v.a m)
+  arrivals Ca v m rest h ready k = noted v (inst_step S 0 v.a m).notes (inst_notes 0 v.a m)
+  arrivals Sb v m rest h ready k = noted v (inst_step S 1 v.b m).notes (inst_notes 1 v.b m)
+  arrivals Cb v m rest h ready k = noted v (inst_step S 1 v.b m).notes (inst_notes 1 v.b m)
+  arrivals x v m rest h ready k = noted v (switch_step S v.sw m).notes (back_notes v.sw m h)
 
   -- the end
   goes_sc : (t : Target) (s : Switch) (p : ℕ) → Each NotEnd (sent 1 (goes S t s p).sends)
@@ -134,15 +134,16 @@ module _ {U T C R O : Type 0} (S : System U T C R O) where
   end_in v m rest h ready (On_link none one not_yet) = cc
   end_in v m rest h ready (Has_come none no_end has) = cc
 
+  -- Stop goes to an instance
+  stop_goes : (P : Msg C → Type 0) (b : Bool) → Each P (sent 1 ((if b then 2 else 3, Stop) ∷ []))
+  stop_goes P true = tt
+  stop_goes P false = tt
+
   -- what the switch sends the controller otherwise says nothing of the end
   quiet_cs : (s : Switch) (m : Msg C) → Label S Cs m → Each Quiet (sent 1 (switch_step S s m).sends)
   quiet_cs s (Forward p) h = tt
   quiet_cs s (Lay high) h = (tt, tt)
-  quiet_cs s (Finish to) h = by (to == 0)
-    where
-      by : (b : Bool) → Each Quiet (sent {M = Msg C} 1 ((if b then 2 else 3, Stop) ∷ []))
-      by true = tt
-      by false = tt
+  quiet_cs s (Finish to) h = stop_goes Quiet (to == 0)
   quiet_cs s m h = absurd h
 
   not_end : (xs : List (Msg C)) → Each (Label S Sc) xs → Each Quiet xs → Each NotEnd xs
@@ -150,16 +151,20 @@ module _ {U T C R O : Type 0} (S : System U T C R O) where
   not_end (End ∷ xs) l h = absurd h.0
   not_end (x ∷ xs) l h = (tt, not_end xs l.1 h.1)
 
+  -- the end stays where it is
+  end_stays : {v w : World T C O} → w.input ≡ v.input → (OneEnd v.sc → OneEnd w.sc) → (Each NotEnd v.sc → Each NotEnd w.sc) → w.ct.ended ≡ v.ct.ended
+      → EndAt v → EndAt w
+  end_stays input one quiet ended (In_input_still last none not_yet) = In_input_still (rw input last) (quiet none) (ended ∙ not_yet)
+  end_stays input one quiet ended (On_link empty there not_yet) = On_link (input ∙ empty) (one there) (ended ∙ not_yet)
+  end_stays input one quiet ended (Has_come empty none has) = Has_come (input ∙ empty) (quiet none) (ended ∙ has)
+
   more_sc : (v w : World T C O) (xs : List (Msg C)) → Each (Label S Sc) xs → Each Quiet xs → w.input ≡ v.input → w.sc ≡ v.sc ++ xs → w.ct.ended ≡ v.ct.ended
       → EndAt v → EndAt w
-  more_sc v w xs l q input sc ended (In_input_still last none not_yet) =
-      In_input_still (rw input last) (rw sc (each-append NotEnd v.sc xs none (not_end xs l q))) (ended ∙ not_yet)
-  more_sc v w xs l q input sc ended (On_link none one not_yet) = On_link (input ∙ none) (rw sc (one_end_more v.sc xs one q)) (ended ∙ not_yet)
-  more_sc v w xs l q input sc ended (Has_come none no_end has) =
-      Has_come (input ∙ none) (rw sc (each-append NotEnd v.sc xs no_end (not_end xs l q))) (ended ∙ has)
+  more_sc v w xs l q input sc ended h =
+      end_stays input (λ one. rw sc (one_end_more v.sc xs one q)) (λ none. rw sc (each-append NotEnd v.sc xs none (not_end xs l q))) ended h
 
   same_sc : (v w : World T C O) → w.input ≡ v.input → w.sc ≡ v.sc → w.ct.ended ≡ v.ct.ended → EndAt v → EndAt w
-  same_sc v w input sc ended h = more_sc v w [] tt tt input (sc ∙ sym (append-nil v.sc)) ended h
+  same_sc v w input sc ended h = end_stays input (λ one. rw sc one) (λ none. rw sc none) ended h
 
   end_sc : (v : World T C O) (m : Msg C) (rest : List (Msg C)) → Label S Sc m → IsSelected S v.ct.kept → EndAt (with_waits S Sc (m ∷ rest) v)
       → EndAt (result S Sc (with_waits S Sc rest v) m)
@@ -171,15 +176,9 @@ module _ {U T C R O : Type 0} (S : System U T C R O) where
       quiet_not (End ∷ xs) h = absurd h.0
       quiet_not (x ∷ xs) h = (tt, quiet_not xs h.1)
   end_sc v End rest h k (Has_come none no_end has) = absurd no_end.0
-  end_sc v Start rest h k (In_input_still last none not_yet) = In_input_still last none.1 ((ctrl_ok S v.ct 0 Start k tt).ended ∙ not_yet)
-  end_sc v Start rest h k (On_link none one not_yet) = On_link none one ((ctrl_ok S v.ct 0 Start k tt).ended ∙ not_yet)
-  end_sc v Start rest h k (Has_come none no_end has) = Has_come none no_end.1 ((ctrl_ok S v.ct 0 Start k tt).ended ∙ has)
-  end_sc v (Copied p) rest h k (In_input_still last none not_yet) = In_input_still last none.1 ((ctrl_ok S v.ct 0 (Copied p) k tt).ended ∙ not_yet)
-  end_sc v (Copied p) rest h k (On_link none one not_yet) = On_link none one ((ctrl_ok S v.ct 0 (Copied p) k tt).ended ∙ not_yet)
-  end_sc v (Copied p) rest h k (Has_come none no_end has) = Has_come none no_end.1 ((ctrl_ok S v.ct 0 (Copied p) k tt).ended ∙ has)
-  end_sc v (Laid high) rest h k (In_input_still last none not_yet) = In_input_still last none.1 ((ctrl_ok S v.ct 0 (Laid high) k tt).ended ∙ not_yet)
-  end_sc v (Laid high) rest h k (On_link none one not_yet) = On_link none one ((ctrl_ok S v.ct 0 (Laid high) k tt).ended ∙ not_yet)
-  end_sc v (Laid high) rest h k (Has_come none no_end has) = Has_come none no_end.1 ((ctrl_ok S v.ct 0 (Laid high) k tt).ended ∙ has)
+  end_sc v Start rest h k e = end_stays refl (λ one. one) (λ none. none.1) (ctrl_ok S v.ct 0 Start k tt).ended e
+  end_sc v (Copied p) rest h k e = end_stays refl (λ one. one) (λ none. none.1) (ctrl_ok S v.ct 0 (Copied p) k tt).ended e
+  end_sc v (Laid high) rest h k e = end_stays refl (λ one. one) (λ none. none.1) (ctrl_ok S v.ct 0 (Laid high) k tt).ended e
   end_sc v m rest h k e = absurd h
 
   quiet_back : (s : Switch) (m : Msg C) → OnBack S m → sent 1 (switch_step S s m).sends ≡ []
@@ -195,11 +194,7 @@ module _ {U T C R O : Type 0} (S : System U T C R O) where
   on_sc_cs : (s : Switch) (m : Msg C) → Label S Cs m → Each (Label S Sc) (sent 1 (switch_step S s m).sends)
   on_sc_cs s (Forward p) h = tt
   on_sc_cs s (Lay high) h = (tt, tt)
-  on_sc_cs s (Finish to) h = by (to == 0)
-    where
-      by : (b : Bool) → Each (Label S Sc) (sent {M = Msg C} 1 ((if b then 2 else 3, Stop) ∷ []))
-      by true = tt
-      by false = tt
+  on_sc_cs s (Finish to) h = stop_goes (Label S Sc) (to == 0)
   on_sc_cs s m h = absurd h
 
   pub end_goes : (pl : Place) (v : World T C O) (m : Msg C) (rest : List (Msg C)) → Label S pl m → Ready pl v m → IsSelected S v.ct.kept

@@ -1,5 +1,5 @@
 -- The switch counts the packets under way: those on links, in the store, and held.
-use Rattle.two_machine.proofs.Words.{◌≡◌, ◌≢◌, ℕ, ◌+◌, Bool, true, false, List, [], ◌∷◌, ◌++◌, length, refl, ap, ◌∙◌, arith, if◌then◌else◌, ◌==◌, length_push}
+use Rattle.two_machine.proofs.Words.{◌≡◌, ◌≢◌, ℕ, ◌+◌, true, false, List, [], ◌∷◌, ◌++◌, length, refl, ap, ◌∙◌, arith, if◌then◌else◌, ◌==◌, length_push}
 use Rattle.two_machine.proofs.Words.{Free, Drops, Target, To_a, System, Msg, Switch, Ctrl, Inst, Step, In_packet, In_start, In_end, Forward, Lay, Finish}
 use Rattle.two_machine.proofs.Words.{Carry, Pass, Stop, Enable, Get, Delete, Restore, Fence, Event, Fenced, Credit, goes, switch_step, processed}
 use Rattle.two_machine.proofs.Words.{all_processed, inst_step, forwards, ctrl_row, soon_at, finishes, ctrl_step, takes_in, World, read-append, Place, Ac, Bc}
@@ -65,104 +65,92 @@ module _ {U T C R O : Type 0} (S : System U T C R O) where
       let sent_next = sent_cells next.sends last.sends in
       omega (arith, one, two, three, sent_first, sent_next)
 
+  -- what a step of the switch, of A and of B does to the cells that it counts and holds: n come with its message
+  abbrev SwitchKeeps : Switch → Step S Switch → ℕ → Type 0
+  SwitchKeeps s did n =
+      (did.node.flying + n ≡ s.flying + weigh cell (sent 2 did.sends) + weigh cell (sent 3 did.sends)) × (did.node.window ≡ s.window)
+
+  abbrev A_keeps : Inst T → Step S (Inst T) → ℕ → Type 0
+  A_keeps i did n = length did.node.held + weigh cell (sent 0 did.sends) + weigh cell (sent 1 did.sends) ≡ length i.held + n
+
+  abbrev B_keeps : Inst T → Step S (Inst T) → ℕ → Type 0
+  B_keeps i did n = length did.node.held + weigh cell (sent 0 did.sends) ≡ length i.held + n
+
   -- steps at each node
   ctrl_counts : (window : ℕ) (v : World T C O) (did : Step S (Ctrl C)) (n : ℕ) → Keeps v.ct did n → v.sw.flying ≡ cells v + n → v.sw.window ≡ window
       → Counts window (put_ctrl S v did)
   ctrl_counts window v did n keeps flying win =
-      record { flying = let a = weigh-append cell v.cs (sent 0 did.sends) in omega (arith, a, keeps, flying); window_is = win }
+      record { flying = omega (arith, weigh-append cell v.cs (sent 0 did.sends), keeps, flying); window_is = win }
 
-  switch_counts : (window : ℕ) (v : World T C O) (did : Step S Switch) (n : ℕ)
-      → did.node.flying + n ≡ v.sw.flying + weigh cell (sent 2 did.sends) + weigh cell (sent 3 did.sends) → did.node.window ≡ v.sw.window
-      → v.sw.flying ≡ cells v + n → v.sw.window ≡ window → Counts window (put_switch S v did)
-  switch_counts window v did n keeps same_window flying win = record {
-    flying = let a = weigh-append cell v.sa (sent 2 did.sends) in let b = weigh-append cell v.sb (sent 3 did.sends) in omega (arith, a, b, keeps, flying);
-    window_is = same_window ∙ win;
+  switch_counts : (window : ℕ) (v : World T C O) (did : Step S Switch) (n : ℕ) → SwitchKeeps v.sw did n → v.sw.flying ≡ cells v + n → v.sw.window ≡ window
+      → Counts window (put_switch S v did)
+  switch_counts window v did n keeps flying win = record {
+    flying = omega (arith, weigh-append cell v.sa (sent 2 did.sends), weigh-append cell v.sb (sent 3 did.sends), keeps.0, flying);
+    window_is = keeps.1 ∙ win;
   }
 
-  a_counts : (window : ℕ) (v : World T C O) (did : Step S (Inst T)) (n : ℕ)
-      → length did.node.held + weigh cell (sent 0 did.sends) + weigh cell (sent 1 did.sends) ≡ length v.a.held + n → v.sw.flying ≡ cells v + n
-      → v.sw.window ≡ window → Counts window (put_a S v did)
-  a_counts window v did n keeps flying win =
-      record {
-        flying =
-            let a = weigh-append cell v.aw (sent 0 did.sends) in let b = weigh-append cell v.ac (sent 1 did.sends) in omega (arith, a, b, keeps, flying);
-        window_is = win;
-      }
+  a_counts : (window : ℕ) (v : World T C O) (did : Step S (Inst T)) (n : ℕ) → A_keeps v.a did n → v.sw.flying ≡ cells v + n → v.sw.window ≡ window
+      → Counts window (put_a S v did)
+  a_counts window v did n keeps flying win = record {
+    flying = omega (arith, weigh-append cell v.aw (sent 0 did.sends), weigh-append cell v.ac (sent 1 did.sends), keeps, flying);
+    window_is = win;
+  }
 
-  b_counts : (window : ℕ) (v : World T C O) (did : Step S (Inst T)) (n : ℕ) → length did.node.held + weigh cell (sent 0 did.sends) ≡ length v.b.held + n
-      → v.sw.flying ≡ cells v + n → v.sw.window ≡ window → Counts window (put_b S v did)
+  b_counts : (window : ℕ) (v : World T C O) (did : Step S (Inst T)) (n : ℕ) → B_keeps v.b did n → v.sw.flying ≡ cells v + n → v.sw.window ≡ window
+      → Counts window (put_b S v did)
   b_counts window v did n keeps flying win =
-      record { flying = let a = weigh-append cell v.bw (sent 0 did.sends) in omega (arith, a, keeps, flying); window_is = win }
+      record { flying = omega (arith, weigh-append cell v.bw (sent 0 did.sends), keeps, flying); window_is = win }
 
-  goes_cells : (t : Target) (s : Switch) (p : ℕ)
-      → ((goes S t s p).node.flying + 0 ≡ s.flying + weigh cell (sent 2 (goes S t s p).sends) + weigh cell (sent 3 (goes S t s p).sends))
-      × ((goes S t s p).node.window ≡ s.window)
+  goes_cells : (t : Target) (s : Switch) (p : ℕ) → SwitchKeeps s (goes S t s p) 0
   goes_cells To_a s p = (omega arith, refl)
   goes_cells t s p = (omega arith, refl)
 
-  in_cells : (s : Switch) (m : Msg C) → Label S In m → takes_in S s m ≡ true
-      → ((switch_step S s m).node.flying + 0 ≡ s.flying + weigh cell (sent 2 (switch_step S s m).sends) + weigh cell (sent 3 (switch_step S s m).sends))
-      × ((switch_step S s m).node.window ≡ s.window)
+  in_cells : (s : Switch) (m : Msg C) → Label S In m → takes_in S s m ≡ true → SwitchKeeps s (switch_step S s m) 0
   in_cells s (In_packet p) l ready = rw ready (goes_cells (if S.covers p then s.target else To_a) s p)
   in_cells s In_start l ready = (omega arith, refl)
   in_cells s In_end l ready = (omega arith, refl)
   in_cells s m l ready = absurd l
 
-  cs_cells : (s : Switch) (m : Msg C) → Label S Cs m
-      →
-      ((switch_step S s m).node.flying + cell m
-      ≡ s.flying + weigh cell (sent 2 (switch_step S s m).sends) + weigh cell (sent 3 (switch_step S s m).sends))
-      × ((switch_step S s m).node.window ≡ s.window)
+  cs_cells : (s : Switch) (m : Msg C) → Label S Cs m → SwitchKeeps s (switch_step S s m) (cell m)
   cs_cells s (Forward p) l = (omega arith, refl)
   cs_cells s (Lay high) l = (omega arith, refl)
-  cs_cells s (Finish to) l = by (to == 0)
-    where
-      by : (b : Bool)
-          →
-          (s.flying + 0
-          ≡ s.flying + weigh cell (sent {M = Msg C} 2 ((if b then 2 else 3, Stop) ∷ []))
-          + weigh cell (sent {M = Msg C} 3 ((if b then 2 else 3, Stop) ∷ [])))
-          × (s.window ≡ s.window)
-      by true = (omega arith, refl)
-      by false = (omega arith, refl)
+  cs_cells s (Finish to) l =
+      elim (to == 0) as (λ b. SwitchKeeps s (record { node = s; sends = (if b then 2 else 3, Stop) ∷ []; notes = [] }) 0) [
+        | true ↦ (omega arith, refl)
+        | false ↦ (omega arith, refl)
+      ]
   cs_cells s m l = absurd l
 
-  back_cells : (s : Switch) (m : Msg C) (n : ℕ) → OnBack S m → s.flying ≡ n + cell m
-      →
-      ((switch_step S s m).node.flying + cell m
-      ≡ s.flying + weigh cell (sent 2 (switch_step S s m).sends) + weigh cell (sent 3 (switch_step S s m).sends))
-      × ((switch_step S s m).node.window ≡ s.window)
+  back_cells : (s : Switch) (m : Msg C) (n : ℕ) → OnBack S m → s.flying ≡ n + cell m → SwitchKeeps s (switch_step S s m) (cell m)
   back_cells s (Credit p) n l e = (omega (arith, e), refl)
   back_cells s m n l e = absurd l
 
-  carry_a : {i : Inst T} {p : ℕ} {did : Step S (Inst T)} → Carried S 0 i p did
-      → length did.node.held + weigh cell (sent 0 did.sends) + weigh cell (sent 1 did.sends) ≡ length i.held + 1
+  back_counts : (window : ℕ) (v : World T C O) (m : Msg C) → OnBack S m → v.sw.flying ≡ cells v + cell m → v.sw.window ≡ window
+      → Counts window (put_switch S v (switch_step S v.sw m))
+  back_counts window v m l flying win =
+      switch_counts window v (switch_step S v.sw m) (cell m) (back_cells v.sw m (cells v) l flying) flying win
+
+  carry_a : {i : Inst T} {p : ℕ} {did : Step S (Inst T)} → Carried S 0 i p did → A_keeps i did 1
   carry_a {i} {p} (Held covers) = omega (arith, length_push i.held p)
   carry_a run = omega arith
 
-  sa_cells : (i : Inst T) (m : Msg C) → Label S Sa m
-      → length (inst_step S 0 i m).node.held + weigh cell (sent 0 (inst_step S 0 i m).sends) + weigh cell (sent 1 (inst_step S 0 i m).sends)
-      ≡ length i.held + cell m
+  sa_cells : (i : Inst T) (m : Msg C) → Label S Sa m → A_keeps i (inst_step S 0 i m) (cell m)
   sa_cells i (Carry p) l = carry_a (carried S 0 i p)
   sa_cells i Stop l = omega arith
   sa_cells i m l = absurd l
 
-  ca_cells : (i : Inst T) (m : Msg C) → Label S Ca m
-      → length (inst_step S 0 i m).node.held + weigh cell (sent 0 (inst_step S 0 i m).sends) + weigh cell (sent 1 (inst_step S 0 i m).sends)
-      ≡ length i.held + 0
+  ca_cells : (i : Inst T) (m : Msg C) → Label S Ca m → A_keeps i (inst_step S 0 i m) 0
   ca_cells i (Enable r) l = omega arith
   ca_cells i Get l = omega arith
   ca_cells i (Delete c) l = omega arith
   ca_cells i m l = absurd l
 
-  carry_b : {i : Inst T} {p : ℕ} {did : Step S (Inst T)} → i.rule ≢ Drops → Carried S 1 i p did
-      → length did.node.held + weigh cell (sent 0 did.sends) ≡ length i.held + 1
+  carry_b : {i : Inst T} {p : ℕ} {did : Step S (Inst T)} → i.rule ≢ Drops → Carried S 1 i p did → B_keeps i did 1
   carry_b no_drop (Runs free) = omega arith
   carry_b no_drop (Hands_out drops covers) = absurd (no_drop drops)
   carry_b {i} {p} no_drop (Held covers) = omega (arith, length_push i.held p)
 
-  sb_cells : (i : Inst T) (m : Msg C) → i.rule ≢ Drops → Label S Sb m
-      → length (inst_step S 1 i m).node.held + weigh cell (sent 0 (inst_step S 1 i m).sends) ≡ length i.held + cell m
+  sb_cells : (i : Inst T) (m : Msg C) → i.rule ≢ Drops → Label S Sb m → B_keeps i (inst_step S 1 i m) (cell m)
   sb_cells i (Carry p) no_drop l = carry_b no_drop (carried S 1 i p)
   sb_cells i (Pass p) no_drop l = omega arith
   sb_cells i Stop no_drop l = omega arith
@@ -173,10 +161,10 @@ module _ {U T C R O : Type 0} (S : System U T C R O) where
   all_cells i [] = (refl, refl)
   all_cells i (p ∷ ps) = let rest = all_cells (processed S 1 i p).node ps in (rest.0, omega (arith, rest.1))
 
-  cb_cells : (i : Inst T) (m : Msg C) → Label S Cb m → length (inst_step S 1 i m).node.held + weigh cell (sent 0 (inst_step S 1 i m).sends) ≡ length i.held + 0
+  cb_cells : (i : Inst T) (m : Msg C) → Label S Cb m → B_keeps i (inst_step S 1 i m) 0
   cb_cells i (Enable r) l = omega arith
   cb_cells i (Restore c) l = omega arith
-  cb_cells i Fence l = let all = all_cells (record i { rule = Free; held = [] }) i.held in let one = all.0 in let two = all.1 in omega (arith, one, two)
+  cb_cells i Fence l = let all = all_cells (record i { rule = Free; held = [] }) i.held in omega (arith, all.0, all.1)
   cb_cells i m l = absurd l
 
   -- the controller takes a message that brings it this many cells
@@ -203,34 +191,22 @@ module _ {U T C R O : Type 0} (S : System U T C R O) where
   pub counts_keeps : (window : ℕ) (pl : Place) (v : World T C O) (m : Msg C) (rest : List (Msg C)) → Label S pl m → Ready S pl v m → v.b.rule ≢ Drops
       → Counts window (with_waits S pl (m ∷ rest) v) → Counts window (result S pl (with_waits S pl rest v) m)
   counts_keeps window In v m rest l ready no_drop h =
-      let two = in_cells v.sw m l ready in
-      let f = h.flying in
-      switch_counts window (with_waits S In rest v) (switch_step S v.sw m) 0 two.0 two.1 (omega (arith, f)) h.window_is
+      switch_counts window (with_waits S In rest v) (switch_step S v.sw m) 0 (in_cells v.sw m l ready) (omega (arith, h.flying)) h.window_is
   counts_keeps window Cs v m rest l ready no_drop h =
-      let two = cs_cells v.sw m l in
-      let f = h.flying in
-      switch_counts window (with_waits S Cs rest v) (switch_step S v.sw m) (cell m) two.0 two.1 (omega (arith, f)) h.window_is
-  counts_keeps window Aw v m rest l ready no_drop h =
-      let f = h.flying in
-      let n = cells (with_waits S Aw rest v) in
-      let two = back_cells v.sw m n l (omega (arith, f)) in
-      switch_counts window (with_waits S Aw rest v) (switch_step S v.sw m) (cell m) two.0 two.1 (omega (arith, f)) h.window_is
-  counts_keeps window Bw v m rest l ready no_drop h =
-      let f = h.flying in
-      let n = cells (with_waits S Bw rest v) in
-      let two = back_cells v.sw m n l (omega (arith, f)) in
-      switch_counts window (with_waits S Bw rest v) (switch_step S v.sw m) (cell m) two.0 two.1 (omega (arith, f)) h.window_is
+      switch_counts window (with_waits S Cs rest v) (switch_step S v.sw m) (cell m) (cs_cells v.sw m l) (omega (arith, h.flying)) h.window_is
+  counts_keeps window Aw v m rest l ready no_drop h = back_counts window (with_waits S Aw rest v) m l (omega (arith, h.flying)) h.window_is
+  counts_keeps window Bw v m rest l ready no_drop h = back_counts window (with_waits S Bw rest v) m l (omega (arith, h.flying)) h.window_is
   counts_keeps window Sc v m rest l ready no_drop h =
-      let f = h.flying in ctrl_takes window (with_waits S Sc rest v) 0 m 0 (sc_cells m l) (omega (arith, f)) h.window_is
+      ctrl_takes window (with_waits S Sc rest v) 0 m 0 (sc_cells m l) (omega (arith, h.flying)) h.window_is
   counts_keeps window Ac v m rest l ready no_drop h =
-      let f = h.flying in ctrl_takes window (with_waits S Ac rest v) 2 m (cell m) (ac_cells m l) (omega (arith, f)) h.window_is
+      ctrl_takes window (with_waits S Ac rest v) 2 m (cell m) (ac_cells m l) (omega (arith, h.flying)) h.window_is
   counts_keeps window Bc v m rest l ready no_drop h =
-      let f = h.flying in ctrl_takes window (with_waits S Bc rest v) 3 m 0 (bc_cells m l) (omega (arith, f)) h.window_is
+      ctrl_takes window (with_waits S Bc rest v) 3 m 0 (bc_cells m l) (omega (arith, h.flying)) h.window_is
   counts_keeps window Sa v m rest l ready no_drop h =
-      let f = h.flying in a_counts window (with_waits S Sa rest v) (inst_step S 0 v.a m) (cell m) (sa_cells v.a m l) (omega (arith, f)) h.window_is
+      a_counts window (with_waits S Sa rest v) (inst_step S 0 v.a m) (cell m) (sa_cells v.a m l) (omega (arith, h.flying)) h.window_is
   counts_keeps window Ca v m rest l ready no_drop h =
-      let f = h.flying in a_counts window (with_waits S Ca rest v) (inst_step S 0 v.a m) 0 (ca_cells v.a m l) (omega (arith, f)) h.window_is
+      a_counts window (with_waits S Ca rest v) (inst_step S 0 v.a m) 0 (ca_cells v.a m l) (omega (arith, h.flying)) h.window_is
   counts_keeps window Sb v m rest l ready no_drop h =
-      let f = h.flying in b_counts window (with_waits S Sb rest v) (inst_step S 1 v.b m) (cell m) (sb_cells v.b m no_drop l) (omega (arith, f)) h.window_is
+      b_counts window (with_waits S Sb rest v) (inst_step S 1 v.b m) (cell m) (sb_cells v.b m no_drop l) (omega (arith, h.flying)) h.window_is
   counts_keeps window Cb v m rest l ready no_drop h =
-      let f = h.flying in b_counts window (with_waits S Cb rest v) (inst_step S 1 v.b m) 0 (cb_cells v.b m l) (omega (arith, f)) h.window_is
+      b_counts window (with_waits S Cb rest v) (inst_step S 1 v.b m) 0 (cb_cells v.b m l) (omega (arith, h.flying)) h.window_is

@@ -1,18 +1,21 @@
 -- In a complete run all was processed, each record stands at one instance alone, and the verdict is true.
-use Rattle.two_machine.proofs.Words.{◌≡◌, ℕ, Bool, true, false, Option, None, List, [], ◌∷◌, ◌++◌, refl, sym, ap, subst, ◌∙◌, append-nil, arith, ◌⊎◌, inl, inr}
+use Rattle.two_machine.proofs.Words.{◌≡◌, ℕ, Bool, true, false, Option, None, Some, List, [], ◌∷◌, ◌++◌, refl, sym, ap, subst, ◌∙◌, append-nil, arith, ◌⊎◌, inl}
+use Rattle.two_machine.proofs.Words.{inr}
 use Rattle.two_machine.proofs.Words.{if◌then◌else◌, and_parts, false≢true, Choice, Network, run, IsRun, is_done, Over, Scan, Is_done, Is_none, No_low, after}
 use Rattle.two_machine.proofs.Words.{Frame, State, Stage, No_packet_came, High_comes, Is_over, Not_begun, Before, Storing, Passing, Turned, Ends, done, path}
 use Rattle.two_machine.proofs.Words.{Fits, Rises, System, Laws, Msg, Note, Node, Is_switch, Done, No_packet, is_over, node_step, node_ready, node_ended, World}
 use Rattle.two_machine.proofs.Words.{net, read, those, carries, arrived, ran, scans, Observer, Nobody, Of_unit, IsTaken, frame, view, Place, In, Cs, Ac, Sa}
 use Rattle.two_machine.proofs.Words.{Sb, choice, waits, waiting_at, done_is, shape}
+use Rattle.std.specs.Prelude.{filter_map, option_to_list}
+use Rattle.std.specs.List.{cons_option}
 use Rattle.two_machine.proofs.Stages as stages
 use Rattle.two_machine.proofs.Arrivals.{coming}
 use Rattle.two_machine.proofs.Runs.{Holds, Reached}
-use Rattle.two_machine.proofs.Outputs.{mine, record_by, by_log}
+use Rattle.two_machine.proofs.Outputs.{mine, record_by, by_log, own_those, fold_is}
 use Rattle.two_machine.proofs.Closing.{Close, Closed, Closing, signs}
-use Rattle.two_machine.proofs.Promises.{listed, processed, has_come, after_low, verdicts, of_unit, fold, live_in, start, LeadsTo, Complete}
+use Rattle.two_machine.proofs.Promises.{processed, has_come, after_low, verdicts, of_unit, fold, live_in, start, LeadsTo, Complete}
 use Rattle.two_machine.proofs.Scans.{came_by, verdicts_by, is_wrong, scan_right, from_start, the_verdict}
-use Rattle.two_machine.proofs.EveryRun.{own_those, fold_is, WithRight, WithStays, taken_run, untaken_run}
+use Rattle.two_machine.proofs.EveryRun.{WithRight, WithStays, taken_run, untaken_run}
 use Rattle.two_machine.proofs.RunLengths.{Counted, nobody_run}
 use Rattle.actor_net.proofs.CompleteWorlds.{done_waiting, done_node}
 use Rattle.two_machine.proofs.ClosingController.{over_is}
@@ -31,6 +34,10 @@ module _ {U T C R O : Type 0} (S : System U T C R O) where
       let stopped : v.ct.stopped ≡ true = done_node (node_ended S) (net v) e 1 (Is_switch v.sw) (omega arith) in
       let over = ap (λ x. x.over) c.is ∙ closed_only c.at (sym (ap (λ x. x.stopped) c.is) ∙ stopped) in
       over_is S v.ct.phase (and_parts (is_over S v.ct.phase) v.ct.ended over).0
+
+alone : {R : Type 0} (o : Option R) → cons_option o [] ≡ option_to_list o
+alone None = refl
+alone (Some r) = refl
 
 -- the stages in which the update is over
 pub data Ended : Stage → Type 0 where
@@ -94,12 +101,12 @@ module _ {U T C R O : Type 0} (S : System U T C R O) (laws : Laws S) (window : �
   -- what is known of a unit at the end
   pub record UnitEnd (u : U) (w : Network (Node T C) (Msg C) (Note O)) : Type 0 where
     pub all : of_unit S u (processed w.log) ≡ of_unit S u (early ++ late)
-    pub live : live_in S u w.nodes ≡ listed (fold S None (of_unit S u (early ++ late))) []
+    pub live : filter_map (live_in S u) w.nodes ≡ option_to_list (fold S None (of_unit S u (early ++ late)))
 
   record_all : (u : U) (log : List (Note O)) → those (mine S laws u) (read ran log) ≡ those (mine S laws u) (early ++ late)
       → record_by S laws u log ≡ fold S None (of_unit S u (early ++ late))
   record_all u log e =
-      fold_is S laws window early late rises u None (read ran log) ∙ ap (λ xs. fold S None xs) e
+      fold_is S laws u None (read ran log) ∙ ap (fold S None) e
 
   end_taken : {n : ℕ} (u : U) (its : S.takes u ≡ true) (w : Network (Node T C) (Msg C) (Note O)) → WithRight S laws window early late rises u its n w
       → is_done (node_ended S) w ≡ true → UnitEnd u w
@@ -113,14 +120,14 @@ module _ {U T C R O : Type 0} (S : System U T C R O) (laws : Laws S) (window : �
       let dones : done h.stage ≡ those S.covers (read ran v.log) =
       done_is (frame S (Of_unit u)) h.stage ∙ sym (ap (λ x. x.done) h.alike) in
       let own_all : those (mine S laws u) (read ran v.log) ≡ those (mine S laws u) (early ++ late) =
-      sym (own_those S laws window early late rises u its (read ran v.log)) ∙ ap (those (mine S laws u)) (sym dones ∙ two.1)
-      ∙ own_those S laws window early late rises u its (read arrived v.log) ∙ ap (those (mine S laws u)) came
+      sym (own_those S laws u its (read ran v.log)) ∙ ap (those (mine S laws u)) (sym dones ∙ two.1)
+      ∙ own_those S laws u its (read arrived v.log) ∙ ap (those (mine S laws u)) came
       in
       let records = over_records (frame S (Of_unit u)) h.stage two.0 in
       let a : S.at v.a.table u ≡ None = ap (λ x. x.a.live) h.alike ∙ records.0 in
       let b : S.at v.b.table u ≡ fold S None (of_unit S u (early ++ late)) =
       ap (λ x. x.b.live) h.alike ∙ records.1 ∙ by_log S laws u its (early ++ late) rises v h ∙ record_all u v.log own_all in
-      rw here (record { all = own_all; live = ap (λ o. listed o (listed (S.at v.b.table u) [])) a ∙ ap (λ o. listed o []) b })
+      rw here (record { all = own_all; live = ap (λ o. cons_option o (cons_option (S.at v.b.table u) [])) a ∙ alone (S.at v.b.table u) ∙ ap option_to_list b })
 
   end_untaken : {n : ℕ} (u : U) (not_its : S.takes u ≡ false) (w : Network (Node T C) (Msg C) (Note O)) → WithStays S laws window early late rises u not_its n w
       → is_done (node_ended S) w ≡ true → UnitEnd u w
@@ -138,7 +145,8 @@ module _ {U T C R O : Type 0} (S : System U T C R O) (laws : Laws S) (window : �
       ∙ ap (those (mine S laws u)) came
       in
       let a : S.at v.a.table u ≡ fold S None (of_unit S u (early ++ late)) = q.a_is ∙ record_all u v.log own_all in
-      rw here (record { all = own_all; live = ap (λ o. listed (S.at v.a.table u) (listed o [])) q.b_is ∙ ap (λ o. listed o []) a })
+      rw here
+      (record { all = own_all; live = ap (λ o. cons_option (S.at v.a.table u) (cons_option o [])) q.b_is ∙ alone (S.at v.a.table u) ∙ ap option_to_list a })
 
   unit_end : (u : U) (cs : List Choice) → IsRun (node_ready S) (node_step S) cs (start S window early late)
       → is_done (node_ended S) (run (node_step S) cs (start S window early late)) ≡ true → UnitEnd u (run (node_step S) cs (start S window early late))

@@ -3,10 +3,10 @@ use Rattle.std.proofs.Common.{◌≡◌, ℕ, Bool, true, Option, Some, None, Li
 use Rattle.two_machine.proofs.Machine.{Frame, after, Move, Begin, End_comes, Arrive, Take_sa, Take_ca, Take_cb, Take_event, Take_ac, Take_bc}
 use Rattle.two_machine.proofs.Stages.{Early, Not_begun, Enable_goes, Part, Enabled_comes, Get_goes, Chunks_come, Delete_goes, Deleted_comes, Restore_goes}
 use Rattle.two_machine.proofs.Stages.{Restored_comes, Hold_goes, Held_comes, Low_goes, Stage, Before, Storing, Passing, done, path, fit, Fits}
-use Rattle.two_machine.proofs.Laws.{folded-append}
 use Rattle.two_machine.proofs.Shapes.{shape, Leads, to, GoesOn}
+use Rattle.std.proofs.lemmas.List.Sums.{fold-append}
 
-pub ruleset shapes = (append_assoc, append-nil, folded-append)
+pub ruleset shapes = (append_assoc, append-nil, fold-append)
 
 pub ruleset paths = (append_assoc, append-nil)
 

@@ -1,23 +1,20 @@
 -- Order, each packet at most once, true outputs, Low before High, for every run.
-use Rattle.two_machine.proofs.Words.{◌≡◌, ◌≤◌, ℕ, ◌+◌, length, Bool, true, false, Option, Some, None, List, [], ◌∷◌, ◌++◌, refl, sym, ap, subst, ◌∙◌}
-use Rattle.two_machine.proofs.Words.{append_assoc, arith, if◌then◌else◌, ◌==◌, false≢true, nat_tests, Decides-eqb, Choice, Network, run, IsRun, folded, done}
+use Rattle.two_machine.proofs.Words.{◌≡◌, ◌≤◌, ℕ, ◌+◌, length, Bool, true, false, None, List, [], ◌∷◌, ◌++◌, refl, sym, ap, subst, ◌∙◌}
+use Rattle.two_machine.proofs.Words.{append_assoc, arith, if◌then◌else◌, ◌==◌, nat_tests, Decides-eqb, Choice, Network, run, IsRun, done}
 use Rattle.two_machine.proofs.Words.{path, Rises, System, Laws, Msg, Note, Node, node_step, node_ready, read, those, those-append, carries, arrived, ran}
 use Rattle.two_machine.proofs.Words.{Nobody, Of_unit, frame, with_waits, done_is}
+use Rattle.actor_net.proofs.NumberCounts.{times-append, times_filter}
 use Rattle.two_machine.proofs.Arrivals.{coming}
 use Rattle.two_machine.proofs.Runs.{Reached, known}
-use Rattle.two_machine.proofs.Outputs.{mine, its_frame, due, IsRight, right_keeps, cover_mine}
+use Rattle.two_machine.proofs.Outputs.{mine, IsRight, right_keeps, own_those}
 use Rattle.two_machine.proofs.Untaken.{Stays, stays_keeps}
 use Rattle.two_machine.proofs.RunLengths.{nobody_run}
-use Rattle.two_machine.proofs.Promises.{times, IsFront, processed, of_unit, fold, outputs, given, start, LeadsTo, Every}
+use Rattle.two_machine.proofs.Promises.{times, IsFront, processed, of_unit, outputs, given, start, LeadsTo, Every}
 use Rattle.two_machine.proofs.Scans.{scan_right, low_before_high, is_wrong}
 use Rattle.two_machine.proofs.TakenMessages.{labels_less, kept_there}
 use Rattle.two_machine.proofs.Starts.{every_run}
 
 -- lists of numbers
-times_front : (p : ℕ) (xs ys : List ℕ) → times p xs ≤ times p (xs ++ ys)
-times_front p [] ys = omega arith
-times_front p (x ∷ xs) ys = omega (arith, times_front p xs ys)
-
 times_below : (p n : ℕ) (xs : List ℕ) → p ≤ n → Rises n xs → times p xs ≡ 0
 times_below p n [] less h = refl
 times_below p n (x ∷ xs) less h =
@@ -34,47 +31,6 @@ times_once p n (x ∷ xs) h =
     ] refl
 
 module _ {U T C R O : Type 0} (S : System U T C R O) (laws : Laws S) (window : ℕ) (early late : List ℕ) (rises : Rises 0 (early ++ late)) (u : U) where
-  abbrev its_own : List ℕ → List ℕ
-  its_own ps = of_unit S u ps
-
-  due_is : (r : Option R) (ps : List ℕ) → due S laws u r ps ≡ outputs S r (of_unit S u ps)
-  due_is r [] = refl
-  due_is r (p ∷ ps) = by (S.equal (S.unit_of p) u) (due_is (Some (S.step r p)) ps) (due_is r ps)
-    where
-      by : (b : Bool) → due S laws u (Some (S.step r p)) ps ≡ outputs S (Some (S.step r p)) (of_unit S u ps)
-          → due S laws u r ps ≡ outputs S r (of_unit S u ps)
-          → (if b then S.output r p ∷ due S laws u (Some (S.step r p)) ps else due S laws u r ps)
-          ≡ outputs S r (if b then p ∷ of_unit S u ps else of_unit S u ps)
-      by true h k = ap (λ xs. S.output r p ∷ xs) h
-      by false h k = k
-
-  pub fold_is : (r : Option R) (ps : List ℕ) → folded (its_frame S laws u) r ps ≡ fold S r (of_unit S u ps)
-  fold_is r [] = refl
-  fold_is r (p ∷ ps) = by (S.equal (S.unit_of p) u) (fold_is (Some (S.step r p)) ps) (fold_is r ps)
-    where
-      by : (b : Bool) → folded (its_frame S laws u) (Some (S.step r p)) ps ≡ fold S (Some (S.step r p)) (of_unit S u ps)
-          → folded (its_frame S laws u) r ps ≡ fold S r (of_unit S u ps)
-          → folded (its_frame S laws u) (if b then Some (S.step r p) else r) ps
-          ≡ fold S r (if b then p ∷ of_unit S u ps else of_unit S u ps)
-      by true h k = h
-      by false h k = k
-
-  -- the unit's packets are among those that the filter matches
-  pub own_those : S.takes u ≡ true → (ps : List ℕ) → those (mine S laws u) (those S.covers ps) ≡ those (mine S laws u) ps
-  own_those its [] = refl
-  own_those its (p ∷ ps) = by (S.covers p) refl (own_those its ps)
-    where
-      both : (b : Bool) → mine S laws u p ≡ b → S.covers p ≡ false
-          → (if b then p ∷ those (mine S laws u) ps else those (mine S laws u) ps) ≡ those (mine S laws u) ps
-      both true e off = absurd (false≢true (sym off ∙ cover_mine S laws u its p e))
-      both false e off = refl
-
-      by : (b : Bool) → S.covers p ≡ b → those (mine S laws u) (those S.covers ps) ≡ those (mine S laws u) ps
-          → those (mine S laws u) (if b then p ∷ those S.covers ps else those S.covers ps)
-          ≡ (if mine S laws u p then p ∷ those (mine S laws u) ps else those (mine S laws u) ps)
-      by true e h = ap (λ xs. if mine S laws u p then p ∷ xs else xs) h
-      by false e h = h ∙ sym (both (mine S laws u p) refl e)
-
   -- what is known of a unit in any world of a run
   pub record UnitFacts (w : Network (Node T C) (Msg C) (Note O)) : Type 0 where
     pub front : IsFront (of_unit S u (processed w.log)) (of_unit S u (early ++ late))
@@ -91,10 +47,6 @@ module _ {U T C R O : Type 0} (S : System U T C R O) (laws : Laws S) (window : �
         ∙ sym (those-append (mine S laws u) (read arrived log) input)
         ∙ ap (those (mine S laws u)) are;
   }
-
-  answers_from : (log : List (Note O)) → IsRight S laws u log
-      → given S u log ≡ outputs S None (of_unit S u (processed log))
-  answers_from log right = right ∙ due_is None (read ran log)
 
   abbrev pub WithRight : S.takes u ≡ true → ℕ → Network (Node T C) (Msg C) (Note O) → Type 0
   WithRight its n w = Reached S laws (Of_unit u) its (early ++ late) rises (λ n v. IsRight S laws u v.log) n w
@@ -124,15 +76,15 @@ module _ {U T C R O : Type 0} (S : System U T C R O) (laws : Laws S) (window : �
       let h = r.holds in
       let dones : done h.stage ≡ those S.covers (read ran v.log) = done_is (frame S (Of_unit u)) h.stage ∙ sym (ap (λ x. x.done) h.alike) in
       let order : those (mine S laws u) (read ran v.log) ++ those (mine S laws u) (path h.stage) ≡ those (mine S laws u) (read arrived v.log) =
-      ap (λ xs. xs ++ those (mine S laws u) (path h.stage)) (sym (own_those its (read ran v.log)) ∙ ap (those (mine S laws u)) (sym dones))
+      ap (λ xs. xs ++ those (mine S laws u) (path h.stage)) (sym (own_those S laws u its (read ran v.log)) ∙ ap (those (mine S laws u)) (sym dones))
       ∙ sym (those-append (mine S laws u) (done h.stage) (path h.stage))
       ∙ ap (those (mine S laws u)) h.order
-      ∙ own_those its (read arrived v.log)
+      ∙ own_those S laws u its (read arrived v.log)
       in
       rw here
       (record {
         front = front_from v.log (read coming v.input) (those (mine S laws u) (path h.stage)) order h.arrivals_are;
-        answers = answers_from v.log r.more;
+        answers = r.more;
       })
 
   pub facts_untaken : {n : ℕ} (not_its : S.takes u ≡ false) (w : Network (Node T C) (Msg C) (Note O)) → WithStays not_its n w → UnitFacts w
@@ -142,7 +94,7 @@ module _ {U T C R O : Type 0} (S : System U T C R O) (laws : Laws S) (window : �
       rw here
       (record {
         front = front_from v.log (read coming v.input) (those (mine S laws u) (read carries v.sa)) r.more.order r.holds.arrivals_are;
-        answers = answers_from v.log r.more.right;
+        answers = r.more.right;
       })
 
   pub unit_facts : (cs : List Choice) → IsRun (node_ready S) (node_step S) cs (start S window early late)
@@ -153,29 +105,15 @@ module _ {U T C R O : Type 0} (S : System U T C R O) (laws : Laws S) (window : �
       by true e = facts_taken e (run (node_step S) cs (start S window early late)) (taken_run e cs is)
       by false e = facts_untaken e (run (node_step S) cs (start S window early late)) (untaken_run e cs is)
 
-  -- a packet of the unit stands as often among the unit's packets
-  times_own : (p : ℕ) → S.equal (S.unit_of p) u ≡ true → (ps : List ℕ) → times p (of_unit S u ps) ≡ times p ps
-  times_own p own [] = refl
-  times_own p own (q ∷ ps) = by (S.equal (S.unit_of q) u) refl (times_own p own ps)
-    where
-      apart : S.equal (S.unit_of q) u ≡ false → (b : Bool) → (p == q) ≡ b → b ≡ false
-      apart off true e = let same : p ≡ q = (Decides-eqb p q).0 e in absurd (false≢true (sym off ∙ subst (λ x. S.equal (S.unit_of x) u ≡ true) same own))
-      apart off false e = refl
-
-      by : (b : Bool) → S.equal (S.unit_of q) u ≡ b → times p (of_unit S u ps) ≡ times p ps
-          → times p (if b then q ∷ of_unit S u ps else of_unit S u ps) ≡ (if p == q then 1 else 0) + times p ps
-      by true e h = ap (λ k. (if p == q then 1 else 0) + k) h
-      by false e h = let other = apart e (p == q) refl in rw other (h ∙ omega arith)
-
 module _ {U T C R O : Type 0} (S : System U T C R O) (laws : Laws S) (window : ℕ) (early late : List ℕ) (rises : Rises 0 (early ++ late)) where
   once_of : (p : ℕ) (w : Network (Node T C) (Msg C) (Note O)) → UnitFacts S laws window early late rises (S.unit_of p) w → times p (processed w.log) ≤ 1
   once_of p w facts =
       let u = S.unit_of p in
       let own = laws.itself u in
       let front = facts.front in
-      let left = times_own S laws window early late rises u p own (processed w.log) in
-      let right = times_own S laws window early late rises u p own (early ++ late) in
-      let part = times_front p (of_unit S u (processed w.log)) front.rest in
+      let left = times_filter (mine S laws u) p own (processed w.log) in
+      let right = times_filter (mine S laws u) p own (early ++ late) in
+      let part = times-append p (of_unit S u (processed w.log)) front.rest in
       let whole = ap (times p) front.whole in
       let one = times_once p 0 (early ++ late) rises in
       omega (arith, left, right, part, whole, one)

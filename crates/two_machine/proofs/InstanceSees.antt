@@ -1,6 +1,6 @@
 -- What is seen of a step of an instance or of the switch is the machine's.
 use Rattle.two_machine.proofs.Words.{◌≡◌, ◌≢◌, ℕ, Bool, true, false, Option, Some, None, List, [], ◌∷◌, ◌++◌, refl, sym, ap, ◌∙◌, append_assoc, append-nil}
-use Rattle.two_machine.proofs.Words.{if◌then◌else◌, ◌==◌, is_some, false≢true, Rule, Free, Drops, Buffers, Target, To_a, To_both, To_b, State, stepped, folded}
+use Rattle.two_machine.proofs.Words.{if◌then◌else◌, ◌==◌, is_some, false≢true, Rule, Free, Drops, Buffers, Target, To_a, State, stepped, folded}
 use Rattle.two_machine.proofs.Words.{System, Laws, Inst, Step, processed, all_processed, ruled, inst_step, goes, switch_step, World, Observer, Nobody, Of_unit}
 use Rattle.two_machine.proofs.Words.{read-append, frame, own, inside, IsTaken, view, IsSelected, put_switch, put_a, put_b, Each}
 use Rattle.two_machine.proofs.Machine as m

@@ -1,21 +1,23 @@
 -- Each step from a stage from the low rule on leads to a stage, in order.
 use Rattle.two_machine.proofs.Words.{◌≡◌, ℕ, Bool, true, false, Option, Some, None, List, [], ◌∷◌, ◌++◌, refl, sym, ap, subst, ◌∙◌, append_assoc, append-nil}
+use Rattle.two_machine.proofs.Words.{fold-append, map-append, read, read-append, copies, copied}
 use Rattle.two_machine.proofs.Words.{is_some, false≢true, Frame, Move, End_comes, Arrive, Take_sa, Take_pass, Take_plain, Take_sc, Take_forward, Take_cs}
 use Rattle.two_machine.proofs.Words.{Take_cb, Take_event, Take_seen, Take_bc, Idles, same, Low_goes, Low_comes, Waits, No_packet_came, High_comes, Settles}
-use Rattle.two_machine.proofs.Words.{Fence_goes, Is_over, Stage, Before, Storing, Passing, Turned, Ends, to_list, done, path, last_of, Rises, fit, Fits, shape}
+use Rattle.two_machine.proofs.Words.{Fence_goes, Is_over, Stage, Before, Storing, Passing, Turned, Ends, to_list, done, path, last_or, Rises, fit, Fits, shape}
 use Rattle.two_machine.proofs.Words.{Allowed, Leads, to, GoesOn}
 use Rattle.two_machine.proofs.Machine.{Laid, soon}
 use Rattle.two_machine.proofs.Stages.{Turn, High_goes, Late, Last, Fenced_comes, Old, old, Copies, waits, since_seen, old_path, Follows, LastFits, copying}
 use Rattle.two_machine.proofs.Stages.{PathFits}
-use Rattle.two_machine.proofs.Laws.{folded-append, copies-append, copied-copies, copied_all, last_put, append_nil_left, append_nil_right, rises_after}
+use Rattle.two_machine.proofs.Laws.{copied_all, last_put, append_nil_left, append_nil_right, rises_after}
 use Rattle.two_machine.proofs.Laws.{rises_front, only_one, both}
 use Rattle.two_machine.proofs.EarlySteps.{stays, paths, before, storing}
 
-ruleset shapes = (append_assoc, append-nil, folded-append, copies-append)
+ruleset shapes = (append_assoc, append-nil, fold-append, map-append)
 
 -- the old path with its packets at other places
 pub refollow : {d : List ℕ} {o : Old} {c : Copies} → (w : Old) → Follows d o c → since_seen w ≡ since_seen o → old_path w ≡ old_path o → Follows d w c
-refollow {d} {o} {c} w h one two = record { front = h.front; joined = ap (λ xs. h.front ++ xs) one ∙ h.joined; last = λ x e. ap last_of two ∙ h.last x e }
+refollow {d} {o} {c} w h one two =
+    record { front = h.front; joined = ap (λ xs. h.front ++ xs) one ∙ h.joined; last = λ x e. ap (last_or None) two ∙ h.last x e }
 
 -- what fits, with another path
 refit : {d e : List ℕ} {o w : Old} {c : Copies} {b : Bool} {Own : Type 0} → Follows e w c → PathFits d o c b Own → PathFits e w c b Own
@@ -31,7 +33,7 @@ pub follow_pass : (d : List ℕ) (s : Option ℕ) (z x g e l : List ℕ) (c : Co
 follow_pass d s z x g e l c p h = record {
   front = h.front;
   joined = let is = h.joined in rw (← is) (simp paths);
-  last = λ v is. let same : old_path (old s (z ++ p ∷ []) x g e l) ≡ old_path (old s z (p ∷ x) g e l) = simp paths in ap last_of same ∙ h.last v is;
+  last = λ v is. let same : old_path (old s (z ++ p ∷ []) x g e l) ≡ old_path (old s z (p ∷ x) g e l) = simp paths in ap (last_or None) same ∙ h.last v is;
 }
 
 -- it is told that one was seen
@@ -53,7 +55,7 @@ follow_both d s z x g e l t c p h = record {
   last = λ v is.
       let whole : old_path (old s z x g e (l ++ p ∷ [])) ≡ old_path (old s z x g e l) ++ p ∷ [] = simp paths in
       let mine : to_list t ++ (c ++ p ∷ []) ≡ (to_list t ++ c) ++ p ∷ [] = sym (append_assoc (to_list t) c (p ∷ [])) in
-      ap last_of whole ∙ last_put (old_path (old s z x g e l)) p ∙ sym (ap last_of mine ∙ last_put (to_list t ++ c) p) ∙ is;
+      ap (last_or None) whole ∙ last_put None (old_path (old s z x g e l)) p ∙ sym (ap (last_or None) mine ∙ last_put None (to_list t ++ c) p) ∙ is;
 }
 
 -- without a copy, before any
@@ -131,7 +133,7 @@ module _ {R : Type 0} (f : Frame R) where
   is_empty : (d : List ℕ) (v : ℕ) (z x g e l : List ℕ) (c : Copies) (h y : List ℕ) (k : ℕ) → Follows d (old (Some v) z x g e l) c → c.last ≡ Some v
       → c.coming ≡ [] → Rises k (d ++ (waits (old (Some v) z x g e l) ++ (h ++ y))) → z ++ (x ++ (g ++ (e ++ l))) ≡ []
   is_empty d v z x g e l c h y k w last none rises =
-      let ends : last_of (to_list c.last ++ c.coming) ≡ Some v = rw (last, none) refl in
+      let ends : last_or None (to_list c.last ++ c.coming) ≡ Some v = rw (last, none) refl in
       let is_last = w.last v ends in
       let is = w.joined in
       let whole : d ++ ((x ++ (g ++ (e ++ l))) ++ (h ++ y)) ≡ w.front ++ ((v ∷ (z ++ (x ++ (g ++ (e ++ l))))) ++ (h ++ y)) = rw (← is) (simp paths) in
@@ -190,7 +192,8 @@ module _ {R : Type 0} (f : Frame R) where
       (fit (follow_copy d (old s z x g e l) t c p w.follows) (λ is. let none = w.none_after is in cc) refl) refl (simp paths)
   turned High_comes d s z x g e l t c h y b w k rises End_comes a =
       to (Turned High_comes d s z x g e l t c h y true)
-      (fit w.follows (λ _. let none = copied-copies R c (Laid true ∷ []) in sym (append-nil c) ∙ sym none ∙ a.1) w.own) refl (simp paths)
+      (fit w.follows (λ _. sym (read-append copied (copies c) (Laid true ∷ []) ∙ append-nil (read copied (copies c)) ∙ copied_all R c) ∙ a.1) w.own)
+      refl (simp paths)
   turned Settles d s z x g e l t c h y b w k rises End_comes a =
       to (Turned Settles d s z x g e l t c h y true) (fit w.follows (λ _. w.own.0) w.own) (let not_yet = w.own.1 in rw not_yet refl) (simp paths)
   turned Settles d s z x g e l t c h y b w k rises Idles a =

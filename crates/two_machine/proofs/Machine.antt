@@ -1,7 +1,7 @@
 -- The machine of a two-phase update: what a unit that its filter takes sees of the switch, the controller, the source A and the
 -- destination B. It sees every packet that the filter matches, and its own records.
 use Rattle.std.proofs.Common.{ℕ, Bool, true, false, Option, Some, None, List, [], ◌∷◌, ◌++◌}
-use Rattle.std.specs.Prelude.{if◌then◌else◌, ◌==◌}
+use Rattle.std.specs.Prelude.{if◌then◌else◌, ◌==◌, fold}
 
 pub data Rule : Type 0 where
   Free : Rule
@@ -84,8 +84,7 @@ stepped f r p = if f.mine p then Some (f.step r p) else r
 
 -- the record after these packets
 abbrev pub folded : {R : Type 0} → Frame R → Option R → List ℕ → Option R
-folded f r [] = r
-folded f r (p ∷ ps) = folded f (stepped f r p) ps
+folded f r ps = fold (stepped f) r ps
 
 abbrev pub after : {R : Type 0} → Frame R → List ℕ → Option R
 after f d = folded f None d

@@ -2,7 +2,7 @@
 use Rattle.two_machine.proofs.Words.{◌≡◌, ◌<◌, ◌⊎◌, inl, inr, ℕ, true, false, Option, Some, None, List, [], ◌∷◌, ◌++◌, refl, sym, ap, subst, ◌∙◌, append-nil}
 use Rattle.two_machine.proofs.Words.{arith, ◌==◌, ◌&&◌, is_some, false≢true, nat_tests, Choice, Network, is_enabled, is_done, Over, Frame, State, same, Stage}
 use Rattle.two_machine.proofs.Words.{Not_begun, Waits, No_packet_came, High_comes, Settles, Is_over, Before, Storing, Passing, Turned, Ends, Fits, Rises}
-use Rattle.two_machine.proofs.Words.{last_of, to_list, System, Laws, Msg, Note, Node, In_packet, In_start, In_end, has_room, node_ready, node_ended, World}
+use Rattle.two_machine.proofs.Words.{last_or, to_list, System, Laws, Msg, Note, Node, In_packet, In_start, In_end, has_room, node_ready, node_ended, World}
 use Rattle.two_machine.proofs.Words.{net, read, starts, Nobody, frame, view, Place, In, Cs, Aw, Bw, Sc, Ac, Bc, Sa, Ca, Sb, Cb, choice, waits, waiting_at}
 use Rattle.two_machine.proofs.Words.{Label, copies, shape, Each}
 use Rattle.actor_net.specs.declared.schedule.Schedule.TheVariants.{First}
@@ -43,7 +43,8 @@ pub record Waiting {R : Type 0} (x : State R) : Type 0 where
 
 module _ {R : Type 0} (f : Frame R) where
   -- all was seen, so it would have settled
-  settled : (o t : Option ℕ) → is_some t ≡ true → ((x : ℕ) → last_of (to_list t ++ []) ≡ Some x → last_of (to_list o ++ []) ≡ Some x) → same o t ≡ true
+  settled : (o t : Option ℕ) → is_some t ≡ true → ((x : ℕ) → last_or None (to_list t ++ []) ≡ Some x → last_or None (to_list o ++ []) ≡ Some x)
+      → same o t ≡ true
   settled o None some h = absurd (false≢true some)
   settled None (Some y) some h = let never = h y refl in cc
   settled (Some x) (Some y) some h = let last = h y refl in let is : x ≡ y = cc in rw is (itself y)
@@ -67,9 +68,9 @@ module _ {R : Type 0} (f : Frame R) where
       let g_is = k.forwards in
       let e_is = k.events in
       let l_is = k.sa in
-      let last : (v : ℕ) → last_of (to_list t ++ []) ≡ Some v → last_of (to_list o ++ []) ≡ Some v = λ v is.
+      let last : (v : ℕ) → last_or None (to_list t ++ []) ≡ Some v → last_or None (to_list o ++ []) ≡ Some v = λ v is.
       let whole : (to_list o ++ z) ++ (x ++ (g ++ (e ++ l))) ≡ to_list o ++ [] = rw (z_is, x_is, g_is, e_is, l_is) (append-nil (to_list o ++ [])) in
-      ap last_of (sym whole) ∙ w.follows.last v (ap (λ xs. last_of (to_list t ++ xs)) none ∙ is)
+      ap (λ xs. last_or None xs) (sym whole) ∙ w.follows.last v (ap (λ xs. last_or None (to_list t ++ xs)) none ∙ is)
       in
       absurd (false≢true (sym w.own.1 ∙ settled o t w.own.2 last))
   waits_there (Ends Is_over d o t h y b) w k = record { store = refl; a_held = refl; b_held = w; cause = inr (inr refl) }
@@ -108,28 +109,19 @@ module _ {U T C R O : Type 0} (S : System U T C R O) (laws : Laws S) where
           ∙ stuck_links (node_ready S) (net v) is_world none (choice pl).port (choice pl).node (is_link pl link))
 
   bare : (v : World T C O) → Links v → Bare (view S Nobody v)
-  bare v h =
-      let sa = h Sa tt in
-      let sb = h Sb tt in
-      let sc = h Sc tt in
-      let cs = h Cs tt in
-      let ca = h Ca tt in
-      let cb = h Cb tt in
-      let ac = h Ac tt in
-      let bc = h Bc tt in
-      record {
-        sa = rw sa refl;
-        passes = rw sb refl;
-        forwards = rw cs refl;
-        events = rw ac refl;
-        seens = rw bc refl;
-        sc = rw sc refl;
-        cs = rw cs refl;
-        ca = rw ca refl;
-        cb = rw cb refl;
-        ac = rw ac refl;
-        bc = rw bc refl;
-      }
+  bare v h = record {
+    sa = rw (h Sa tt) refl;
+    passes = rw (h Sb tt) refl;
+    forwards = rw (h Cs tt) refl;
+    events = rw (h Ac tt) refl;
+    seens = rw (h Bc tt) refl;
+    sc = rw (h Sc tt) refl;
+    cs = rw (h Cs tt) refl;
+    ca = rw (h Ca tt) refl;
+    cb = rw (h Cb tt) refl;
+    ac = rw (h Ac tt) refl;
+    bc = rw (h Bc tt) refl;
+  }
 
   -- the closing has come to its end where none of its messages stands anywhere
   all_closed : (v : World T C O) (c : Closing S v) → Links v → is_at_end S v.ct ≡ true → c.at ≡ Closed
@@ -148,17 +140,7 @@ module _ {U T C R O : Type 0} (S : System U T C R O) (laws : Laws S) where
 
   -- no packet is under way
   none_flies : (window : ℕ) (v : World T C O) → Counts S window v → Links v → Waiting (view S Nobody v) → v.sw.flying ≡ 0
-  none_flies window v n h w =
-      let sa = h Sa tt in
-      let sb = h Sb tt in
-      let cs = h Cs tt in
-      let ac = h Ac tt in
-      let aw = h Aw tt in
-      let bw = h Bw tt in
-      let store : v.ct.store ≡ [] = w.store in
-      let a : v.a.held ≡ [] = w.a_held in
-      let b : v.b.held ≡ [] = w.b_held in
-      n.flying ∙ rw (sa, sb, cs, ac, aw, bw, store, a, b) refl
+  none_flies window v n h w = n.flying ∙ rw (h Sa tt, h Sb tt, h Cs tt, h Ac tt, h Aw tt, h Bw tt, w.store, w.a_held, w.b_held) refl
 
   has_room_there : (window : ℕ) (v : World T C O) → 0 < window → Counts S window v → v.sw.flying ≡ 0 → has_room S v.sw ≡ true
   has_room_there window v some n flying = let win = n.window_is in rw (flying, win) (grind (arith, nat_tests, some))
@@ -192,17 +174,24 @@ module _ {U T C R O : Type 0} (S : System U T C R O) (laws : Laws S) where
           let a : v.a.stopped ≡ true = ap (λ x. x.a) c.is ∙ ap (λ k. (signs k).a) at in
           let b : v.b.stopped ≡ true = ap (λ x. x.b) c.is ∙ ap (λ k. (signs k).b) at in
           let closed : v.sw.closed ≡ true = ap (λ x. x.closed) c.is ∙ ap (λ k. (signs k).closed) at in
-          let sa = links Sa tt in
-          let sb = links Sb tt in
-          let sc = links Sc tt in
-          let cs = links Cs tt in
-          let ca = links Ca tt in
-          let cb = links Cb tt in
-          let ac = links Ac tt in
-          let bc = links Bc tt in
-          let aw = links Aw tt in
-          let bw = links Bw tt in
-          rw (none, sa, sb, sc, cs, ca, cb, ac, bc, aw, bw, stopped, a, b, closed, flying) refl
+          rw (
+            none,
+            links Sa tt,
+            links Sb tt,
+            links Sc tt,
+            links Cs tt,
+            links Ca tt,
+            links Cb tt,
+            links Ac tt,
+            links Bc tt,
+            links Aw tt,
+            links Bw tt,
+            stopped,
+            a,
+            b,
+            closed,
+            flying,
+          ) refl
 
       by : v.ct.ended ≡ true → read starts v.input ++ read starts v.sc ≡ []
           → ((read starts v.input ++ read starts v.sc) ≡ 0 ∷ []) ⊎ (v.ct.ended ≡ false) ⊎ (v.ct.phase ≡ Over) → is_done (node_ended S) (net v) ≡ true

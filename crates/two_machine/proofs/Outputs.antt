@@ -3,11 +3,12 @@ use Rattle.two_machine.proofs.Words.{◌≡◌, ℕ, Bool, true, false, Option, 
 use Rattle.two_machine.proofs.Words.{Free, Target, To_a, Item, State, Frame, stepped, folded, after, Stage, Restore_goes, Before, Storing}
 use Rattle.two_machine.proofs.Words.{Passing, Turned, Ends, done, Rises, System, Laws, Msg, Note, Switch, Inst, In_packet, Lay, Carry, Pass, Stop, Enable, Get}
 use Rattle.two_machine.proofs.Words.{Delete, Restore, Fence, Processed, has_room, goes, switch_step, processed, all_processed, inst_step, ctrl_step, Step}
-use Rattle.two_machine.proofs.Words.{World, read, read-append, those, carries, item, ran, Of_unit, frame, view, Place, Ca, Cb, Sa, Sb, Sc, Ac, Bc, with_waits}
-use Rattle.two_machine.proofs.Words.{Label, result, done_is, shape, Each}
+use Rattle.two_machine.proofs.Words.{World, read, read-append, those, those-append, carries, item, ran, Of_unit, frame, view, Place, Ca, Cb, Sa, Sb, Sc, Ac, Bc}
+use Rattle.two_machine.proofs.Words.{with_waits, Label, result, done_is, shape, Each}
 use Rattle.two_machine.proofs.Machine as m
 use Rattle.two_machine.proofs.View.{passes}
-use Rattle.two_machine.proofs.Promises.{given}
+use Rattle.two_machine.proofs.Laws.{scan-append, fold_filter, filter_among}
+use Rattle.two_machine.proofs.Promises.{of_unit, fold, outputs, answer, given}
 use Rattle.two_machine.proofs.Rows.{Carried, Runs, Hands_out, Held, carried}
 use Rattle.two_machine.proofs.Runs.{Holds}
 use Rattle.two_machine.proofs.StepLabels.{ctrl_ok, gives}
@@ -45,40 +46,28 @@ module _ {U T C R O : Type 0} (S : System U T C R O) (laws : Laws S) (u : U) whe
   told ns = given S u ns
 
   abbrev pub due : Option R → List ℕ → List O
-  due r [] = []
-  due r (p ∷ ps) = if mine p then S.output r p ∷ due (Some (S.step r p)) ps else due r ps
+  due r ps = outputs S r (of_unit S u ps)
 
   -- the unit's record by the log
   abbrev pub record_by : List (Note O) → Option R
   record_by log = folded its_frame None (read ran log)
 
-  told-append : (xs ys : List (Note O)) → told (xs ++ ys) ≡ told xs ++ told ys
-  told-append [] ys = refl
-  told-append (Processed p i o ∷ xs) ys = by (mine p) (told-append xs ys)
-    where
-      by : (b : Bool) → told (xs ++ ys) ≡ told xs ++ told ys
-          → (if b then o ∷ told (xs ++ ys) else told (xs ++ ys)) ≡ (if b then o ∷ told xs else told xs) ++ told ys
-      by true e = ap (λ zs. o ∷ zs) e
-      by false e = e
-  told-append (n ∷ xs) ys = told-append xs ys
+  -- the machine's record is that of one instance
+  pub fold_is : (r : Option R) (ps : List ℕ) → folded its_frame r ps ≡ fold S r (of_unit S u ps)
+  fold_is r ps = sym (fold_filter (λ before p. Some (S.step before p)) mine r ps)
 
   due-append : (r : Option R) (xs ys : List ℕ) → due r (xs ++ ys) ≡ due r xs ++ due (folded its_frame r xs) ys
-  due-append r [] ys = refl
-  due-append r (p ∷ xs) ys = by (mine p) (due-append (Some (S.step r p)) xs ys) (due-append r xs ys)
-    where
-      by : (b : Bool) → due (Some (S.step r p)) (xs ++ ys) ≡ due (Some (S.step r p)) xs ++ due (folded its_frame (Some (S.step r p)) xs) ys
-          → due r (xs ++ ys) ≡ due r xs ++ due (folded its_frame r xs) ys
-          → (if b then S.output r p ∷ due (Some (S.step r p)) (xs ++ ys) else due r (xs ++ ys))
-          ≡ (if b then S.output r p ∷ due (Some (S.step r p)) xs else due r xs) ++ due (folded its_frame (if b then Some (S.step r p) else r) xs) ys
-      by true e k = ap (λ zs. S.output r p ∷ zs) e
-      by false e k = k
+  due-append r xs ys =
+      ap (outputs S r) (those-append mine xs ys)
+      ∙ scan-append (λ before p. Some (S.step before p)) S.output r (of_unit S u xs) (of_unit S u ys)
+      ∙ ap (λ k. due r xs ++ outputs S k (of_unit S u ys)) (sym (fold_is r xs))
 
   abbrev pub IsRight : List (Note O) → Type 0
   IsRight log = told log ≡ due None (read ran log)
 
   pub right_more : (log notes : List (Note O)) → IsRight log → told notes ≡ due (record_by log) (read ran notes) → IsRight (log ++ notes)
   right_more log notes right more =
-      told-append log notes
+      read-append (answer S u) log notes
       ∙ ap (λ xs. xs ++ told notes) right
       ∙ ap (λ xs. due None (read ran log) ++ xs) more
       ∙ sym (ap (due None) (read-append ran log notes) ∙ due-append None (read ran log) (read ran notes))
@@ -97,7 +86,8 @@ module _ {U T C R O : Type 0} (S : System U T C R O) (laws : Laws S) (u : U) whe
       → told (Processed p n (S.output (S.at t (S.unit_of p)) p) ∷ []) ≡ due r (p ∷ [])
   right_one n t p r has = by (mine p) refl
     where
-      by : (b : Bool) → mine p ≡ b → (if b then S.output (S.at t (S.unit_of p)) p ∷ [] else []) ≡ (if b then S.output r p ∷ [] else [])
+      by : (b : Bool) → mine p ≡ b
+          → (if b then S.output (S.at t (S.unit_of p)) p ∷ [] else []) ++ [] ≡ outputs S r (if b then p ∷ [] else [])
       by true e = ap (λ o. S.output o p ∷ []) (ap (S.at t) (laws.is_same (S.unit_of p) u e) ∙ has e)
       by false e = refl
 
@@ -107,7 +97,7 @@ module _ {U T C R O : Type 0} (S : System U T C R O) (laws : Laws S) (u : U) whe
       let next = (processed S n i p).node in
       let then_has : S.at next.table u ≡ stepped its_frame r p = laws.processed i.table p u ∙ ap (λ x. stepped its_frame x p) has in
       let rest = right_all n next ps (stepped its_frame r p) then_has in
-      told-append (processed S n i p).notes (all_processed S n next ps).notes
+      read-append (answer S u) (processed S n i p).notes (all_processed S n next ps).notes
       ∙ ap (λ xs. xs ++ told (all_processed S n next ps).notes) (right_one n i.table p r (λ _. has))
       ∙ ap (λ xs. due r (p ∷ []) ++ xs) rest
       ∙ sym (due-append r (p ∷ []) ps)
@@ -120,17 +110,16 @@ module _ {U T C R O : Type 0} (S : System U T C R O) (laws : Laws S) (u : U) whe
   ran_fence n i = ran_all n (record i { rule = Free; held = [] }) i.held
 
   -- packets of other units
-  pub due_other : (r : Option R) (ps : List ℕ) → Each (λ p. mine p ≡ false) ps → due r ps ≡ []
-  due_other r [] h = refl
-  due_other r (p ∷ ps) h = let other = h.0 in rw other (due_other r ps h.1)
+  pub own_none : (ps : List ℕ) → Each (λ p. mine p ≡ false) ps → of_unit S u ps ≡ []
+  own_none [] h = refl
+  own_none (p ∷ ps) h = let other = h.0 in rw other (own_none ps h.1)
 
   pub told_other : (n : ℕ) (i : Inst T) (ps : List ℕ) → Each (λ p. mine p ≡ false) ps → told (all_processed S n i ps).notes ≡ []
   told_other n i [] h = refl
   told_other n i (p ∷ ps) h = let other = h.0 in rw other (told_other n (processed S n i p).node ps h.1)
 
   pub folded_other : (r : Option R) (ps : List ℕ) → Each (λ p. mine p ≡ false) ps → folded its_frame r ps ≡ r
-  folded_other r [] h = refl
-  folded_other r (p ∷ ps) h = let other = h.0 in rw other (folded_other r ps h.1)
+  folded_other r ps h = fold_is r ps ∙ ap (fold S r) (own_none ps h)
 
   -- the packets of a unit that the filter takes are among those that it matches
   pub cover_mine : S.takes u ≡ true → (p : ℕ) → mine p ≡ true → S.covers p ≡ true
@@ -154,16 +143,12 @@ module _ {U T C R O : Type 0} (S : System U T C R O) (laws : Laws S) (u : U) whe
   each_other not_its [] h = tt
   each_other not_its (p ∷ ps) h = (other_cover not_its p h.0, each_other not_its ps h.1)
 
-  -- folding over the matched packets is folding over all
-  pub folded_those : S.takes u ≡ true → (r : Option R) (ps : List ℕ) → folded its_frame r (those S.covers ps) ≡ folded its_frame r ps
-  folded_those its r [] = refl
-  folded_those its r (p ∷ ps) = by (S.covers p) refl (folded_those its (stepped its_frame r p) ps) (folded_those its r ps)
-    where
-      by : (b : Bool) → S.covers p ≡ b → folded its_frame (stepped its_frame r p) (those S.covers ps) ≡ folded its_frame (stepped its_frame r p) ps
-          → folded its_frame r (those S.covers ps) ≡ folded its_frame r ps
-          → folded its_frame r (if b then p ∷ those S.covers ps else those S.covers ps) ≡ folded its_frame (stepped its_frame r p) ps
-      by true e h k = h
-      by false e h k = let other = not_mine its p e in k ∙ rw other refl
+  -- the unit's packets are among those that the filter matches, so folding over these is folding over all
+  pub own_those : S.takes u ≡ true → (ps : List ℕ) → of_unit S u (those S.covers ps) ≡ of_unit S u ps
+  own_those its ps = filter_among mine S.covers (not_mine its) ps
+
+  folded_those : S.takes u ≡ true → (r : Option R) (ps : List ℕ) → folded its_frame r (those S.covers ps) ≡ folded its_frame r ps
+  folded_those its r ps = fold_is r (those S.covers ps) ∙ ap (fold S r) (own_those its ps) ∙ sym (fold_is r ps)
 
   -- switch and controller process nothing
   goes_ran : (t : Target) (s : Switch) (p : ℕ) → read ran (goes S t s p).notes ≡ []

@@ -1,13 +1,10 @@
 -- The theorem's words: what is read off a run of a two-phase update, and what holds of every run. Packets go by their numbers.
-use Rattle.two_machine.proofs.Words.{◌≡◌, ◌≤◌, ◌⊎◌, ℕ, ◌+◌, ◌*◌, Bool, true, false, Option, Some, None, List, [], ◌∷◌, ◌++◌, length, if◌then◌else◌, ◌||◌}
-use Rattle.two_machine.proofs.Words.{Choice, Network, IsRun, is_enabled, is_done, run, opening, System, Msg, Note, Node, Arrived, Processed, Low, High, Done}
+use Rattle.two_machine.proofs.Words.{◌≡◌, ◌≤◌, ◌⊎◌, ℕ, ◌+◌, ◌*◌, Bool, true, Option, Some, None, List, [], ◌∷◌, ◌++◌, length, if◌then◌else◌}
+use Rattle.two_machine.proofs.Words.{Choice, Network, IsRun, is_enabled, is_done, run, opening, System, Msg, Note, Node, Processed, Low, High, Done}
 use Rattle.two_machine.proofs.Words.{No_packet, Is_switch, Is_inst, node_step, node_ready, node_ended, first_nodes, items, read, those, arrived, ran}
+use Rattle.std.specs.Prelude.{fold as fold_over, scan, filter_map, option_to_list}
+use Rattle.std.specs.List.{list_any}
 pub use Rattle.actor_net.specs.Numbers.{IsFront, times}
-
--- a list with one item in front, if there is one
-abbrev pub listed : {X : Type 0} → Option X → List X → List X
-listed None xs = xs
-listed (Some x) xs = x ∷ xs
 
 module _ {O : Type 0} where
   -- packets that were processed, in order
@@ -22,9 +19,7 @@ module _ {O : Type 0} where
 
   -- whether such a packet arrived
   abbrev pub has_come : (ℕ → Bool) → List (Note O) → Bool
-  has_come k [] = false
-  has_come k (Arrived p ∷ ns) = k p || has_come k ns
-  has_come k (n ∷ ns) = has_come k ns
+  has_come k ns = list_any k (read arrived ns)
 
   -- the notes of the update's end
   abbrev pub verdicts : List (Note O) → List (Note O)
@@ -45,24 +40,23 @@ module _ {U T C R O : Type 0} (S : System U T C R O) where
 
   -- one instance that nothing moves: its record after packets of one unit, and its outputs
   abbrev pub fold : Option R → List ℕ → Option R
-  fold r [] = r
-  fold r (p ∷ ps) = fold (Some (S.step r p)) ps
+  fold r ps = fold_over (λ before p. Some (S.step before p)) r ps
 
   abbrev pub outputs : Option R → List ℕ → List O
-  outputs r [] = []
-  outputs r (p ∷ ps) = S.output r p ∷ outputs (Some (S.step r p)) ps
+  outputs r ps = scan (λ before p. Some (S.step before p)) S.output r ps
 
   -- what was answered to the unit's packets
-  abbrev pub given : U → List (Note O) → List O
-  given u [] = []
-  given u (Processed p i o ∷ ns) = if S.equal (S.unit_of p) u then o ∷ given u ns else given u ns
-  given u (n ∷ ns) = given u ns
+  abbrev pub answer : U → Note O → List O
+  answer u (Processed p i o) = if S.equal (S.unit_of p) u then o ∷ [] else []
+  answer u n = []
 
-  -- the unit's live record at each node that has one, in order of the nodes
-  abbrev pub live_in : U → List (Node T C) → List R
-  live_in u [] = []
-  live_in u (Is_inst n i ∷ nodes) = listed (S.at i.table u) (live_in u nodes)
-  live_in u (n ∷ nodes) = live_in u nodes
+  abbrev pub given : U → List (Note O) → List O
+  given u ns = read (answer u) ns
+
+  -- the unit's record that is live at a node
+  abbrev pub live_in : U → Node T C → Option R
+  live_in u (Is_inst n i) = S.at i.table u
+  live_in u n = None
 
   -- Low stands before High, and between them such a packet arrived
   pub record LowBeforeHigh (log : List (Note O)) : Type 0 where
@@ -98,7 +92,7 @@ module _ {U T C R O : Type 0} (S : System U T C R O) (window : ℕ) (early late 
   pub record Complete (w : Network (Node T C) (Msg C) (Note O)) : Type 0 where
     -- each packet of a unit is processed, and its record is live at one instance alone
     pub all : (u : U) → of_unit S u (processed w.log) ≡ of_unit S u (early ++ late)
-    pub live : (u : U) → live_in S u w.nodes ≡ listed (fold S None (of_unit S u (early ++ late))) []
+    pub live : (u : U) → filter_map (live_in S u) w.nodes ≡ option_to_list (fold S None (of_unit S u (early ++ late)))
     -- the verdict
     pub verdict : verdicts w.log ≡ (if has_come S.covers (after_low w.log) then Done ∷ [] else No_packet ∷ [])
 

@@ -1,10 +1,12 @@
 -- What holds of every world of a run, complete or not: each observer sees a stage, with the packets in order.
-use Rattle.two_machine.proofs.Words.{◌≡◌, ◌<◌, ℕ, suc, ◌+◌, length, Bool, true, false, Option, Some, None, List, [], ◌∷◌, ◌++◌, refl, sym, ap, subst, ◌∙◌}
-use Rattle.two_machine.proofs.Words.{append_assoc, append-nil, arith, if◌then◌else◌, Choice, Network, is_enabled, world_next, run, IsRun, Move, State, Stage}
+use Rattle.two_machine.proofs.Words.{◌≡◌, ◌<◌, ℕ, suc, ◌+◌, length, Bool, true, false, Option, Some, None, List, [], ◌∷◌, ◌++◌, sym, ap, subst, ◌∙◌}
+use Rattle.two_machine.proofs.Words.{append_assoc, arith, if◌then◌else◌, Choice, Network, is_enabled, world_next, run, IsRun, Move, Stage}
 use Rattle.two_machine.proofs.Words.{done, path, Fits, Rises, System, Laws, Msg, Note, Node, In_packet, End, node_step, node_ready, World, net, read, those}
 use Rattle.two_machine.proofs.Words.{those-append, arrived, Observer, IsTaken, frame, view, Labels, Label, Place, In, Sc, choice, with_waits, comes, result}
 use Rattle.two_machine.proofs.Words.{shape, Each}
 use Rattle.two_machine.proofs.Laws.{rises_front}
+use Rattle.two_machine.proofs.Shapes.{Leads}
+use Rattle.two_machine.proofs.EarlySteps.{stays}
 use Rattle.two_machine.proofs.LateSteps.{goes_on}
 use Rattle.two_machine.proofs.StageFacts.{Knows, knows, each_those, each_after}
 use Rattle.two_machine.proofs.TurnSees.{moved_by, AllowedBy, brought, Permits, turn}
@@ -65,18 +67,11 @@ module _ {U T C R O : Type 0} (S : System U T C R O) where
     permits Sc v End rest ready h l (Has_come empty quiet has) = absurd quiet.0
     permits pl v x rest ready h l e = tt
 
-    -- where a step of the machine leads
-    pub record Goes (x : State R) (s : Stage) (ps : List ℕ) : Type 0 where
-      pub next : Stage
-      pub fits : Fits next
-      pub alike : x ≡ shape (frame S o) next
-      pub order : done next ++ path next ≡ (done s ++ path s) ++ ps
-
+    -- where a step of the machine leads, or none
     goes_by : (s : Stage) → Fits s → Rises 0 (done s ++ path s) → (move : Option Move) → AllowedBy (shape (frame S o) s) move
-        → Goes (moved_by (frame S o) move (shape (frame S o) s)) s (brought move)
-    goes_by s fits rise None a = record { next = s; fits = fits; alike = refl; order = sym (append-nil (done s ++ path s)) }
-    goes_by s fits rise (Some mv) a =
-        let leads = goes_on (frame S o) s fits 0 rise mv a in record { next = leads.next; fits = leads.fits; alike = leads.alike; order = leads.order }
+        → Leads (frame S o) s (moved_by (frame S o) move (shape (frame S o) s)) (brought move)
+    goes_by s fits rise None a = stays (frame S o) s fits
+    goes_by s fits rise (Some mv) a = goes_on (frame S o) s fits 0 rise mv a
 
     -- a step keeps all
     pub keeps : (pl : Place) (v : World T C O) (x : Msg C) (rest : List (Msg C)) → Ready S pl v x → Holds (with_waits S pl (x ∷ rest) v)

@@ -1,8 +1,9 @@
 -- What the scan of a log tells: Low before High with a packet between them, and the verdict.
 use Rattle.two_machine.proofs.Words.{◌≡◌, ℕ, Bool, true, false, List, [], ◌∷◌, ◌++◌, refl, sym, ap, ◌∙◌, append-nil, if◌then◌else◌, ◌||◌, false≢true, Scan}
 use Rattle.two_machine.proofs.Words.{No_low, Is_done, Is_none, Frame, Stage, Passing, Ends, Low_comes, Waits, Is_over, System, Note, Arrived, Processed, Low}
-use Rattle.two_machine.proofs.Words.{High, Done, No_packet, scans, scans-append, shape}
+use Rattle.two_machine.proofs.Words.{High, Done, No_packet, scans, shape, fold-append}
 use Rattle.std.proofs.Math.Bool.{or-false}
+use Rattle.std.proofs.lemmas.List.Folds.{fold_stays}
 use Rattle.two_machine.proofs.Machine.{Low_only, Low_came, High_laid, Wrong}
 use Rattle.two_machine.proofs.View.{scan_note}
 use Rattle.two_machine.proofs.Promises.{after_low, has_come, verdicts}
@@ -31,13 +32,11 @@ has_low s = true
 module _ {U T C R O : Type 0} (S : System U T C R O) where
   -- nothing rights a wrong log
   wrong_stays : (ns : List (Note O)) → scans S Wrong ns ≡ Wrong
-  wrong_stays [] = refl
-  wrong_stays (Arrived p ∷ ns) = by (S.covers p) (wrong_stays ns)
+  wrong_stays ns = fold_stays (scan_note S) Wrong stays ns
     where
-      by : (b : Bool) → scans S Wrong ns ≡ Wrong → scans S (if b then Wrong else Wrong) ns ≡ Wrong
-      by true e = e
-      by false e = e
-  wrong_stays (n ∷ ns) = wrong_stays ns
+      stays : (n : Note O) → scan_note S Wrong n ≡ Wrong
+      stays (Arrived p) = elim (S.covers p) as (λ b. (if b then Wrong else Wrong) ≡ Wrong) [ true ↦ refl | false ↦ refl ]
+      stays n = refl
 
   never : {X : Type 0} → (ns : List (Note O)) → is_wrong (scans S Wrong ns) ≡ false → X
   never ns right = let wrong = wrong_stays ns in absurd (false≢true (sym (rw wrong at right)))
@@ -99,7 +98,7 @@ module _ {U T C R O : Type 0} (S : System U T C R O) where
   pub low_before_high : (log : List (Note O)) → is_wrong (scans S No_low log) ≡ false → (before after : List (Note O)) → log ≡ before ++ High ∷ after
       → has_come S.covers (after_low before) ≡ true
   low_before_high log right before after is =
-      let whole = scans-append S No_low before (High ∷ after) in
+      let whole = fold-append (scan_note S) No_low before (High ∷ after) in
       let was = before_high (scans S No_low before) after (rw (is, whole) at right) in
       sym (from_start before (rw was refl)) ∙ ap came_by was
 

@@ -1,5 +1,6 @@
 -- The state of the machine at each stage (`shape`), and where a move from there leads.
-use Rattle.std.proofs.Common.{◌≡◌, ℕ, true, false, Option, None, List, [], ◌∷◌, ◌++◌, refl}
+use Rattle.std.proofs.Common.{◌≡◌, ℕ, true, false, Option, None, List, [], ◌∷◌, ◌++◌, refl, map}
+use Rattle.std.specs.Prelude.{flat_map}
 use Rattle.two_machine.proofs.Machine.{Rule, Free, Drops, Buffers, Target, To_a, To_both, To_b, Phase, Idle, Freezing, Getting, Deleting, Putting, Holding}
 use Rattle.two_machine.proofs.Machine.{Laying, Waiting, Turning, Settling, Ending, Over, Scan, No_low, Low_only, Low_came, High_laid, Is_done, Is_none, Item}
 use Rattle.two_machine.proofs.Machine.{Enable, Get, Delete, Restore, Fence, Enabled, Chunks, Deleted, Restored, Fenced, Lay, Laid, Copied, Frame, after}
@@ -84,8 +85,7 @@ turn_phase High_goes = Turning
 turn_phase No_packet_came = Over
 
 abbrev pub copies : {R : Type 0} → List ℕ → List (Item R)
-copies [] = []
-copies (p ∷ ps) = Copied p ∷ copies ps
+copies ps = map Copied ps
 
 abbrev pub turn_sc : {R : Type 0} → Turn → List ℕ → List (Item R)
 turn_sc Low_goes c = []
@@ -222,16 +222,15 @@ module _ {R : Type 0} (f : Frame R) where
         scan = last_scan n;
       }
 
--- the numbers of copies on a link
-abbrev pub copied : {R : Type 0} → List (Item R) → List ℕ
-copied [] = []
-copied (Copied p ∷ xs) = p ∷ copied xs
-copied (x ∷ xs) = copied xs
+-- the number of a copy
+abbrev pub copied : {R : Type 0} → Item R → List ℕ
+copied (Copied p) = p ∷ []
+copied x = []
 
 -- nothing arrives after the end, which comes after all copies
 abbrev pub Allowed : {R : Type 0} → State R → Move → Type 0
 Allowed x (Arrive p) = x.c.ended ≡ false
-Allowed x End_comes = (x.c.ended ≡ false) × (copied x.sc ≡ [])
+Allowed x End_comes = (x.c.ended ≡ false) × (flat_map copied x.sc ≡ [])
 Allowed x m = Unit {0}
 
 abbrev pub brings : Move → List ℕ

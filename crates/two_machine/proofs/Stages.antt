@@ -2,6 +2,7 @@
 -- (`path`), and what is known besides (`Fits`).
 use Rattle.std.proofs.Common.{◌≡◌, ◌<◌, ℕ, Bool, true, false, Option, Some, None, List, [], ◌∷◌, ◌++◌}
 use Rattle.std.specs.Prelude.{is_some}
+use Rattle.std.specs.List.{last_or}
 use Rattle.two_machine.proofs.Machine.{same}
 
 -- before A has its rule
@@ -95,12 +96,6 @@ path (Passing n d s z x g e l t c b) = waits (old s z x g e l)
 path (Turned n d s z x g e l t c h y b) = waits (old s z x g e l) ++ (h ++ y)
 path (Ends n d s t h y b) = h ++ y
 
--- the last of a list
-abbrev pub last_of : List ℕ → Option ℕ
-last_of [] = None
-last_of (x ∷ []) = Some x
-last_of (x ∷ y ∷ xs) = last_of (y ∷ xs)
-
 -- numbers rise
 abbrev pub Rises : ℕ → List ℕ → Type 0
 Rises n [] = Unit {0}
@@ -110,7 +105,7 @@ Rises n (x ∷ xs) = (n < x) × Rises x xs
 pub record Follows (d : List ℕ) (o : Old) (c : Copies) : Type 0 where
   pub front : List ℕ
   pub joined : front ++ since_seen o ≡ d
-  pub last : (x : ℕ) → last_of (to_list c.last ++ c.coming) ≡ Some x → last_of (old_path o) ≡ Some x
+  pub last : (x : ℕ) → last_or None (to_list c.last ++ c.coming) ≡ Some x → last_or None (old_path o) ≡ Some x
 
 abbrev pub TurnFits : Turn → Copies → Bool → Type 0
 TurnFits Low_goes c b = (c.coming ≡ []) × (c.last ≡ None)

@@ -1,11 +1,11 @@
 -- Each node sends what its links have, whatever message of its own it takes.
-use Rattle.two_machine.proofs.Words.{◌≡◌, ◌≢◌, ℕ, Bool, true, false, List, [], ◌∷◌, refl, ◌∙◌, if◌then◌else◌, ◌==◌, Free, Drops, Target, To_a, To_both, To_b}
+use Rattle.two_machine.proofs.Words.{◌≡◌, ◌≢◌, ℕ, Bool, true, false, List, [], ◌∷◌, refl, ◌∙◌, if◌then◌else◌, ◌==◌, Free, Drops, Target, To_a, To_both}
 use Rattle.two_machine.proofs.Words.{System, Msg, Switch, Ctrl, Inst, Step, In_packet, In_start, In_end, Forward, Lay, Finish, Carry, Pass, Stop, Enable, Get}
 use Rattle.two_machine.proofs.Words.{Delete, Restore, Fence, Chunks, Fenced, has_room, goes, switch_step, processed, all_processed, inst_step, forwards}
 use Rattle.two_machine.proofs.Words.{ctrl_row, and_then, soon_at, finishes, soon, ctrl_step, read, read-append, arrived, ran, Place, Ca, Cb, Sa, Sb, Ac}
 use Rattle.two_machine.proofs.Words.{choice, IsSelected, Label, From_a, From_b, Each, each-append}
-use Rattle.two_machine.proofs.Rows.{Kind, Ended, Has, kind, Row, Stays, Passes_over, Freezes, Gets, Deletes, Restores, Holds, Lays_low, Waits, Lays_high}
-use Rattle.two_machine.proofs.Rows.{Copies, Settles, Fences, Is_over, None_came, Stores, Forwards, Sees, Hears_end, Hears_a, Hears_b, Finishes, Not_yet, Asks}
+use Rattle.two_machine.proofs.Rows.{Kind, Ended, Has, kind, Row, Freezes, Gets, Deletes, Restores, Holds, Lays_low, Lays_high}
+use Rattle.two_machine.proofs.Rows.{Fences, Forwards, Hears_a, Finishes, Not_yet, Asks}
 use Rattle.two_machine.proofs.Rows.{row, soon_row, finish_row, Carried, Runs, Hands_out, Held, carried}
 use Rattle.two_machine.proofs.Puts.{From_switch, FromCtrl}
 

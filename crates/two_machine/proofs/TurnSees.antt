@@ -30,7 +30,7 @@ module _ {U T C R O : Type 0} (S : System U T C R O) (laws : Laws S) (o : Observ
   -- what the input and the end allow
   abbrev pub Permits : Place → World T C O → Msg C → List (Msg C) → Type 0
   Permits In v (In_packet p) rest = (has_room S v.sw ≡ true) × (v.ct.ended ≡ false)
-  Permits Sc v End rest = (v.ct.ended ≡ false) × (copied (read (item S o) rest) ≡ [])
+  Permits Sc v End rest = (v.ct.ended ≡ false) × (read copied (read (item S o) rest) ≡ [])
   Permits pl v m rest = Unit {0}
 
   pub record Turns (pl : Place) (v : World T C O) (m : Msg C) (rest : List (Msg C)) : Type 0 where

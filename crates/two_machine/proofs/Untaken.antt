@@ -4,14 +4,14 @@ use Rattle.two_machine.proofs.Words.{Free, Target, To_a, To_both, To_b, stepped,
 use Rattle.two_machine.proofs.Words.{In_end, Forward, Lay, Finish, Carry, Pass, Stop, Enable, Get, Delete, Restore, Fence, Credit, Arrived, goes, switch_step}
 use Rattle.two_machine.proofs.Words.{processed, all_processed, inst_step, ctrl_step, takes_in, World, read, read-append, those, those-append, carries, arrived}
 use Rattle.two_machine.proofs.Words.{ran, Nobody, view, Place, Ca, Cb, Cs, In, Sa, Sb, Aw, Bw, Sc, Ac, Bc, with_waits, IsSelected, OnBack, Label, sent}
-use Rattle.two_machine.proofs.Words.{put_switch, put_a, put_b, result, Each}
-use Rattle.two_machine.proofs.Laws.{folded-append}
+use Rattle.two_machine.proofs.Words.{put_switch, put_a, put_b, result, Each, fold-append}
 use Rattle.two_machine.proofs.Tables
 use Rattle.two_machine.proofs.Rows.{Carried, Runs, Hands_out, Held, carried}
 use Rattle.two_machine.proofs.StageFacts.{Knows}
 use Rattle.two_machine.proofs.Arrivals.{Ready, inst_notes}
-use Rattle.two_machine.proofs.Outputs.{mine, its_frame, told, due, record_by, IsRight, right_more, right_none, right_one, told_other, due_other, folded_other}
+use Rattle.two_machine.proofs.Outputs.{mine, its_frame, told, due, record_by, IsRight, right_more, right_none, right_one, told_other, own_none, folded_other}
 use Rattle.two_machine.proofs.Outputs.{other_cover, each_other, ran_fence}
+use Rattle.two_machine.proofs.Promises.{outputs}
 use Rattle.two_machine.proofs.StepLabels.{CtrlOk, ctrl_ok, gives}
 
 module _ {U T C R O : Type 0} (S : System U T C R O) (laws : Laws S) (u : U) (not_its : S.takes u ≡ false) where
@@ -26,7 +26,7 @@ module _ {U T C R O : Type 0} (S : System U T C R O) (laws : Laws S) (u : U) (no
 
   record_more : (log notes : List (Note O)) → record_by S laws u (log ++ notes) ≡ folded (its_frame S laws u) (record_by S laws u log) (read ran notes)
   record_more log notes =
-      ap (folded (its_frame S laws u) None) (read-append ran log notes) ∙ folded-append (its_frame S laws u) None (read ran log) (read ran notes)
+      ap (folded (its_frame S laws u) None) (read-append ran log notes) ∙ fold-append (stepped (its_frame S laws u)) None (read ran log) (read ran notes)
 
   -- a step that processes nothing, and brings nothing in
   quietly : (v w : World T C O) (notes : List (Note O)) → w.log ≡ v.log ++ notes → read ran notes ≡ [] → read arrived notes ≡ []
@@ -104,7 +104,7 @@ module _ {U T C R O : Type 0} (S : System U T C R O) (laws : Laws S) (u : U) (no
       let came : read arrived (v.log ++ notes) ≡ read arrived v.log = read-append arrived v.log notes ∙ rw no_came (append-nil (read arrived v.log)) in
       let owned : own (read ran (v.log ++ notes)) ≡ own (read ran v.log) =
       ap own (read-append ran v.log notes) ∙ those-append (mine S laws u) (read ran v.log) (read ran notes)
-      ∙ ap (λ xs. own (read ran v.log) ++ xs) (ap own rans ∙ own_none ps others) ∙ append-nil (own (read ran v.log)) in
+      ∙ ap (λ xs. own (read ran v.log) ++ xs) (ap own rans ∙ own_none S laws u ps others) ∙ append-nil (own (read ran v.log)) in
       record {
         a_is =
             rw log
@@ -117,12 +117,8 @@ module _ {U T C R O : Type 0} (S : System U T C R O) (laws : Laws S) (u : U) (no
         right =
             rw log
             (right_more S laws u v.log notes h.right
-            (tells ∙ sym (ap (due S laws u (record_by S laws u v.log)) rans ∙ due_other S laws u (record_by S laws u v.log) ps others)));
+            (tells ∙ sym (ap (due S laws u (record_by S laws u v.log)) rans ∙ ap (outputs S (record_by S laws u v.log)) (own_none S laws u ps others))));
       }
-    where
-      own_none : (xs : List ℕ) → Each (λ p. mine S laws u p ≡ false) xs → own xs ≡ []
-      own_none [] k = refl
-      own_none (p ∷ xs) k = let other = k.0 in rw other (own_none xs k.1)
 
   other_at : (t : T) (p : ℕ) → mine S laws u p ≡ false → S.at (S.process t p) u ≡ S.at t u
   other_at t p other = laws.processed t p u ∙ rw other refl

@@ -1,7 +1,7 @@
 -- A world of the network, link by link, and what an observer sees of it: nobody, who sees packets and the update's messages alone, or
 -- a unit, which sees its own records besides.
-use Rattle.std.proofs.Common.{◌≡◌, ℕ, Bool, true, false, Option, None, List, [], ◌∷◌, ◌++◌, refl}
-use Rattle.std.specs.Prelude.{if◌then◌else◌, filter, flat_map}
+use Rattle.std.proofs.Common.{◌≡◌, ℕ, Bool, true, false, Option, None, List, [], ◌∷◌, ◌++◌}
+use Rattle.std.specs.Prelude.{if◌then◌else◌, filter, flat_map, fold}
 use Rattle.std.proofs.lemmas.List.Concat.{flat_map-append}
 use Rattle.std.proofs.lemmas.List.Elements.{filter-append}
 use Rattle.actor_net.specs.Network.{Network}
@@ -139,12 +139,7 @@ module _ {U T C R O : Type 0} (S : System U T C R O) where
   scan_note s No_packet = scanned s m.No_packet
 
   abbrev pub scans : Scan → List (Note O) → Scan
-  scans s [] = s
-  scans s (n ∷ ns) = scans (scan_note s n) ns
-
-  pub scans-append : (s : Scan) (xs ys : List (Note O)) → scans s (xs ++ ys) ≡ scans (scans s xs) ys
-  scans-append s [] ys = refl
-  scans-append s (n ∷ xs) ys = scans-append (scan_note s n) xs ys
+  scans s ns = fold scan_note s ns
 
   -- an instance and the controller as they are seen
   abbrev pub seen_inst : Observer U → Inst T → m.Inst R

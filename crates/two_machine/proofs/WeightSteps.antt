@@ -4,7 +4,7 @@ use Rattle.two_machine.proofs.Words.{To_a, System, Msg, Switch, Ctrl, Inst, Step
 use Rattle.two_machine.proofs.Words.{Get, Delete, Restore, Fence, Event, Fenced, Credit, has_room, goes, switch_step, processed, all_processed}
 use Rattle.two_machine.proofs.Words.{inst_step, ctrl_step, World, Place, Bc, Ca, Cb, Cs, In, Sa, Sb, Sc, Aw, Bw, Ac, with_waits, OnBack, Label, sent}
 use Rattle.two_machine.proofs.Words.{put_switch, put_ctrl, put_a, put_b, result, weigh, weigh-append}
-use Rattle.two_machine.proofs.Rows.{kind, Carried, Runs, Hands_out, Held, carried}
+use Rattle.two_machine.proofs.Rows.{kind, Carried, Held, carried}
 use Rattle.two_machine.proofs.Weights.{w_in, w_sa, w_sb, w_cs, w_two, w_one, w_ac, w_ctrl, weight, Costs, allowed, step_costs}
 
 module _ {U T C R O : Type 0} (S : System U T C R O) where

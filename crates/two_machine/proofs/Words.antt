@@ -3,8 +3,10 @@ pub use Rattle.std.proofs.Common.{ℕ, List, ◌∷◌, ◌≡◌, [], ◌++◌,
 pub use Rattle.std.proofs.Common.{append_assoc, subst, ◌≢◌, ◌≤◌, ◌<◌, ◌*◌, ◌⊎◌, inl, inr, suc}
 pub use Rattle.std.proofs.lemmas.Bool.{false≢true, and_parts}
 pub use Rattle.std.proofs.lemmas.Bool.Decides.{nat_tests, Decides-eqb}
-pub use Rattle.std.proofs.lemmas.List.{length_push}
-pub use Rattle.std.specs.Prelude.{if◌then◌else◌, ◌==◌, is_some, ◌&&◌, ◌||◌}
+pub use Rattle.std.proofs.lemmas.List.{length_push, map-append}
+pub use Rattle.std.proofs.lemmas.List.Sums.{fold-append}
+pub use Rattle.std.specs.Prelude.{if◌then◌else◌, ◌==◌, is_some, ◌&&◌, ◌||◌, fold}
+pub use Rattle.std.specs.List.{last_or}
 pub use Rattle.actor_net.proofs.WeightLaws.{Each, weigh, weigh-append, each-append}
 pub use Rattle.actor_net.specs.Network.{Network, IsRun, run, is_enabled, is_done, world_next}
 pub use Rattle.actor_net.specs.Opening.{opening}
@@ -18,7 +20,7 @@ pub use Rattle.two_machine.proofs.Places.{Place, Ac, In, Sa, Sb, with_waits, Ca,
 pub use Rattle.two_machine.proofs.Puts.{result, sent, put_a, put_b, put_ctrl, put_switch, to_one, From_a, From_b, put_twice}
 pub use Rattle.two_machine.proofs.Shapes.{shape, copied, done_is, Allowed, GoesOn, Leads, copies, to}
 pub use Rattle.two_machine.proofs.Stages.{Rises, Stage, Before, Passing, Ends, Storing, done, path, Fits, Not_begun, Turned, Is_over, High_comes}
-pub use Rattle.two_machine.proofs.Stages.{No_packet_came, Waits, last_of, Early, Fence_goes, Held_comes, Hold_goes, Low_comes, Low_goes, Restore_goes}
+pub use Rattle.two_machine.proofs.Stages.{No_packet_came, Waits, Early, Fence_goes, Held_comes, Hold_goes, Low_comes, Low_goes, Restore_goes}
 pub use Rattle.two_machine.proofs.Stages.{Restored_comes, Settles, fit, to_list}
 pub use Rattle.two_machine.proofs.Tables.{System, Msg, Step, Ctrl, In_packet, Laws, Finish, In_end, Lay, ctrl_step, Carry, Note, Fence, Forward, In_start}
 pub use Rattle.two_machine.proofs.Tables.{Inst, Stop, inst_step, processed, Delete, Enable, Get, Pass, Restore, all_processed, goes, node_ready, switch_step}
@@ -27,4 +29,4 @@ pub use Rattle.two_machine.proofs.Tables.{Copied, Done, Is_switch, Laid, Seen, S
 pub use Rattle.two_machine.proofs.Tables.{Restored, and_then, items, node_ended, none, still, takes_in, High, Is_ctrl, Low, first_nodes, in_packets, on_chunks}
 pub use Rattle.two_machine.proofs.Tables.{on_copied, on_deleted, on_enabled, on_event, on_fenced, on_laid, on_restored, on_start, ruled, says}
 pub use Rattle.two_machine.proofs.View.{World, read, read-append, Nobody, frame, those, view, Observer, arrived, Of_unit, net, ran, IsTaken, carries, item}
-pub use Rattle.two_machine.proofs.View.{those-append, inside, own, starts, scans, scans-append}
+pub use Rattle.two_machine.proofs.View.{those-append, inside, own, starts, scans}

@@ -13,4 +13,3 @@ pub mod Theorem
 pub mod PushedPackets
 pub mod SentMessages
 pub mod PacketLines
-pub mod InstanceNames

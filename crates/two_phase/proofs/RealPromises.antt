@@ -1,10 +1,10 @@
 -- What is proved of the reduced network, in the words of the promises.
 use Rattle.two_phase.proofs.Words.{◌≡◌, ◌≤◌, ◌⊎◌, inl, inr, ℕ, suc, ◌+◌, ◌*◌, Bool, true, false, Option, Some, None, List, [], ◌∷◌, ◌++◌, map, drop, length}
-use Rattle.two_phase.proofs.Words.{refl, sym, ap, subst, ◌∙◌, arith, if◌then◌else◌, ◌==◌, ◌||◌, ◌&&◌, slice_get, list_all, Global, nat_tests, Output}
+use Rattle.two_phase.proofs.Words.{refl, sym, ap, subst, ◌∙◌, arith, if◌then◌else◌, ◌==◌, ◌&&◌, slice_get, list_all, Global, nat_tests, Output}
 use Rattle.two_phase.proofs.Words.{FunctionLaws, Semantics, kept_after, output_for, Choice, Network, is_enabled, is_done, packet_numbered, TwoMsg, TwoNote}
 use Rattle.two_phase.proofs.Words.{TwoNode, Switch, SwitchState, node_ready, node_ended, UpdateJob, IsUpdateJob, items_of, inner_notes}
 use Rattle.two_phase.proofs.Words.{switch_in, Published, read, read-append}
-use Rattle.std.specs.Prelude.{filter_map, option_to_list}
+use Rattle.std.specs.Prelude.{filter_map, option_to_list, scan, fold as fold_over}
 use Rattle.std.specs.List.{cons_option, filter, list_any, position_or_len}
 use Rattle.std.proofs.lemmas.Bool.{and_parts}
 use Rattle.std.proofs.lemmas.List.{length-map}
@@ -43,9 +43,7 @@ arrived_is (note.Inner (net_note.Arrived n) ∷ ns) = ap (λ l. n ∷ l) (arrive
 arrived_is (n ∷ ns) = arrived_is ns
 
 come_is : (k : ℕ → Bool) (ns : List TwoNote) → list_any k (arrivals_in (inner_notes ns)) ≡ promises.has_come k (read outline_note ns)
-come_is k [] = refl
-come_is k (note.Inner (net_note.Arrived n) ∷ ns) = ap (λ b. k n || b) (come_is k ns)
-come_is k (n ∷ ns) = come_is k ns
+come_is k ns = ap (list_any k) (arrived_is ns)
 
 -- what isn't low is passed over
 later : (n : TwoNote) (ns : List TwoNote) → is_low n ≡ false → after_low (n ∷ ns) ≡ after_low ns
@@ -75,14 +73,6 @@ verdict_by : (b : Bool) → map real_note (if b then core.Done ∷ [] else core.
 verdict_by true = refl
 verdict_by false = refl
 
-times_are : (p : ℕ) (ns : List ℕ) → times p ns ≡ promises.times p ns
-times_are p [] = refl
-times_are p (n ∷ ns) = ap (λ k. (if p == n then 1 else 0) + k) (times_are p ns)
-
-listed_is : {R : Type 0} (o : Option R) → promises.listed o [] ≡ option_to_list o
-listed_is None = refl
-listed_is (Some r) = refl
-
 module _ (F : Type 0) {R : Type 0} (f : Semantics R) (laws : FunctionLaws f) (alloc : Global) (job : UpdateJob) (is : IsUpdateJob f.kind job) where
   abbrev its : core.System units.Unit (Sound f) (Sound f) R Output
   its = S F f laws alloc job is
@@ -96,14 +86,10 @@ module _ (F : Type 0) {R : Type 0} (f : Semantics R) (laws : FunctionLaws f) (al
   kept_is o p = let transport = ((setting F f laws alloc job is).fits p).transport in rw transport refl
 
   fold_is : (o : Option R) (ps : List ℕ) → fold f (config_of job) (items_of job) o ps ≡ promises.fold its o ps
-  fold_is o [] = refl
-  fold_is o (p ∷ ps) = ap (λ k. fold f (config_of job) (items_of job) k ps) (kept_is o p) ∙ fold_is (Some (its.step o p)) ps
+  fold_is o ps = λ i. fold_over (λ k p. kept_is k p i) o ps
 
   outputs_are : (o : Option R) (ps : List ℕ) → outputs f (config_of job) (items_of job) o ps ≡ promises.outputs its o ps
-  outputs_are o [] = refl
-  outputs_are o (p ∷ ps) =
-      ap (λ k. output_for f job.site o (packet_numbered (items_of job) p) ∷ outputs f (config_of job) (items_of job) k ps) (kept_is o p)
-      ∙ ap (λ l. output_for f job.site o (packet_numbered (items_of job) p) ∷ l) (outputs_are (Some (its.step o p)) ps)
+  outputs_are o ps = λ i. scan (λ k p. kept_is k p i) (λ k p. output_for f job.site k (packet_numbered (items_of job) p)) o ps
 
   given_is : (u : units.Unit) (ns : List TwoNote)
       → outputs_noted f (config_of job) (items_of job) u (inner_notes ns) ≡ promises.given its u (read outline_note ns)
@@ -113,7 +99,7 @@ module _ (F : Type 0) {R : Type 0} (f : Semantics R) (laws : FunctionLaws f) (al
       map (λ d. d.output)
       (if b then record { number = p; instance = i; output = o } ∷ done_where (is_of f (config_of job) (items_of job) u) (dones_in (inner_notes ns))
       else done_where (is_of f (config_of job) (items_of job) u) (dones_in (inner_notes ns)))
-      ≡ (if b then o ∷ promises.given its u (read outline_note ns) else promises.given its u (read outline_note ns))) [
+      ≡ (if b then o ∷ [] else []) ++ promises.given its u (read outline_note ns)) [
         | true ↦ ap (λ l. o ∷ l) (given_is u ns)
         | false ↦ given_is u ns
       ]
@@ -129,16 +115,12 @@ module _ (F : Type 0) {R : Type 0} (f : Semantics R) (laws : FunctionLaws f) (al
 
   -- records at nodes
   live_is : (u : units.Unit) (ws : List (TwoNode F R)) (vs : List (core.Node (Sound f) (Sound f)))
-      → Alike (NodeShows (setting F f laws alloc job is)) ws vs → filter_map (live_in u) ws ≡ promises.live_in its u vs
+      → Alike (NodeShows (setting F f laws alloc job is)) ws vs → filter_map (live_in u) ws ≡ filter_map (promises.live_in its u) vs
   live_is u [] [] h = refl
   live_is u (x ∷ ws) (y ∷ vs) (Switches h, more) = live_is u ws vs more
   live_is u (x ∷ ws) (y ∷ vs) (Controllers h, more) = live_is u ws vs more
   live_is u (x ∷ ws) (y ∷ vs) (Instances {i} {index} {j} h, more) =
-      let one = h.live in let rest = live_is u ws vs more in rw (one, rest) (cons_listed (finite.get j.table.live u) (promises.live_in its u vs))
-    where
-      cons_listed : (o : Option R) (rs : List R) → cons_option o rs ≡ promises.listed o rs
-      cons_listed None rs = refl
-      cons_listed (Some r) rs = refl
+      let one = h.live in rw one (ap (cons_option (finite.get j.table.live u)) (live_is u ws vs more))
   live_is u z w h = absurd h
 
   -- cells at the switch
@@ -174,7 +156,6 @@ module _ (F : Type 0) {R : Type 0} (f : Semantics R) (laws : FunctionLaws f) (al
           live_is = λ u.
               live_is u w.nodes v.nodes shown.outlined.nodes
               ∙ full.live u
-              ∙ listed_is (promises.fold its None (promises.of_unit its u (early F f laws alloc job is ++ late F f laws alloc job is)))
               ∙ ap option_to_list (ap (promises.fold its None) (sym (mine_is u)) ∙ sym (fold_is None (mine f job u)));
           verdict =
               verdicts_are w.log
@@ -232,7 +213,7 @@ module _ (F : Type 0) {R : Type 0} (f : Semantics R) (laws : FunctionLaws f) (al
               };
           once = λ p.
               subst (λ k. k ≤ 1)
-              (sym (ap (times p) (done_is w.log ∙ ap promises.processed log) ∙ times_are p (promises.processed v.log)))
+              (sym (ap (times p) (done_is w.log ∙ ap promises.processed log)))
               (every.once p);
           outputs_are = λ u.
               given_is u w.log
