@@ -1,7 +1,7 @@
 -- No run is longer than its bound, and a world of a run that isn't complete has an enabled choice.
-use Rattle.strong_share.proofs.Words.{◌≡◌, ℕ, zero, suc, ◌+◌, ◌-◌, ◌*◌, ◌<◌, ◌≤◌, inl, inr, Bool, true, false, Option, None, Some, List, [], ◌∷◌, ◌++◌, length}
-use Rattle.strong_share.proofs.Words.{length-append, get_or, refl, sym, ap, subst, ◌∙◌, arith, if◌then◌else◌, ◌==◌, ◌&&◌, slice_get, flat_map, Global}
-use Rattle.strong_share.proofs.Words.{Decides-eqb, Decides-ltb, slice_get-get_or, Packet, Laws, Semantics, Chunk, Msg, InPacket, InEnd, Choice, Network}
+use Rattle.strong_share.proofs.Words.{◌≡◌, ℕ, zero, suc, ◌+◌, ◌-◌, ◌*◌, ◌<◌, ◌≤◌, Bool, true, false, Option, None, Some, List, [], ◌∷◌, ◌++◌, length}
+use Rattle.strong_share.proofs.Words.{length-append, get_or, refl, sym, ap, subst, ◌∙◌, arith, if◌then◌else◌, ◌==◌, ◌&&◌, flat_map, Global}
+use Rattle.strong_share.proofs.Words.{Decides-eqb, Decides-ltb, Packet, Laws, Semantics, Chunk, Msg, InPacket, InEnd, Choice, Network}
 use Rattle.strong_share.proofs.Words.{IsWorld, IsRun, run, world_next, queue_at, is_done, at, NextChoice, run_induction, Each, weigh, sent_weight, StrongNote}
 use Rattle.strong_share.proofs.Words.{StrongNode, Switch, Controller, Idle, node_step, node_ready, node_ended, takes_in, is_idle, StrongJob, IsStrongJob}
 use Rattle.strong_share.proofs.Words.{input_of, first_member, StrongEnds}
@@ -9,7 +9,7 @@ use Rattle.std.proofs.Math.Nat.{mul-suc}
 use Rattle.actor_net.specs.declared.schedule.Schedule.TheVariants.{First}
 use Rattle.actor_net.specs.Network.{is_enabled}
 use Rattle.actor_net.specs.Schedules.{enabled_choices, pick_of}
-use Rattle.actor_net.proofs.DisabledChoices.{IsUnready, stuck_links, stuck_input}
+use Rattle.actor_net.proofs.DisabledChoices.{stuck_links}
 use Rattle.actor_net.proofs.OpeningWorlds.{opening_weight}
 use Rattle.actor_net.proofs.RunInduction.{run_world}
 use Rattle.actor_net.proofs.ScheduleLaws.{picked_enabled, picked_none}
@@ -27,7 +27,7 @@ use Rattle.strong_share.proofs.Steps.{kept}
 use Rattle.strong_share.proofs.Starts.{start, count, start_world, first_scene, start_shows, start_holds}
 use Rattle.strong_share.proofs.Weights.{weight, queue_weight, cell, final_in, few_sent, ended_below, ended_all}
 use Rattle.strong_share.proofs.Flows.{flow, o}
-use Rattle.net_world.proofs.SilentLinks.{all_of as all_nodes, silent_total, all_done}
+use Rattle.net_world.proofs.SilentLinks.{all_of as all_nodes, silent_total, all_done, empty_input}
 
 -- the input weighs what a run may take
 input_weighs : (o : ℕ) (ps : List Packet) → weigh (weight o) (input_of ps) ≡ (2 * o + 6) * length ps + (2 * o + 5)
@@ -214,28 +214,12 @@ module _ (F : Type 0) {R : Type 0} (f : Semantics R) (laws : Laws f) (alloc : Gl
         omega (arith, flies, cells, light, queue)
 
     input_empty : w.input ≡ []
-    input_empty = elim (stuck_input node_ready w world.0 none) as (λ _. w.input ≡ []) [
-      | inl empty ↦ empty
-      | inr unready ↦ absurd (never unready)
-    ]
+    input_empty = empty_input node_ready w world.0 none (Switch x.switch) (counted.shows.switch (Switch x.switch)) takes_all
       where
-        never : IsUnready node_ready w (at 0 0) → ⊥
-        never unready =
-            let long = world.1 in
-            let there : slice_get w.nodes 0 ≡ Some unready.node = unready.node_is in
-            let here : slice_get w.nodes 0 ≡ Some (Switch x.switch) = slice_get-get_or w.nodes 0 (Switch x.switch) (omega (arith, long))
-            ∙ ap Some (counted.shows.switch (Switch x.switch)) in
-            let same : Some unready.node ≡ Some (Switch x.switch) = sym there ∙ here in
-            let is_switch : unready.node ≡ Switch x.switch = cc in
-            let takes = takes_all unready.message in
-            let refused : takes_in x.switch unready.message ≡ false = subst (λ z. node_ready z unready.message ≡ false) is_switch unready.refused in
-            let both : true ≡ false = sym takes ∙ refused in
-            cc
-          where
-            takes_all : (m : Msg) → takes_in x.switch m ≡ true
-            takes_all (InPacket p) = let cells = counted.holds.labelled.switch.cells in let window = job_is.window.0 in let flying = rests in
-                (Decides-ltb x.switch.window.flying x.switch.window.pool.cells).1 (omega (arith, flying, cells, window))
-            takes_all m = refl
+        takes_all : (m : Msg) → takes_in x.switch m ≡ true
+        takes_all (InPacket p) =
+            (Decides-ltb x.switch.window.flying x.switch.window.pool.cells).1 (omega (arith, rests, counted.holds.labelled.switch.cells, job_is.window.0))
+        takes_all m = refl
 
     -- the end has come everywhere
     no_ends : ends_left job x ≡ 0

@@ -2,6 +2,7 @@
 use Rattle.strong_share.proofs.Words.{◌≡◌, ℕ, true, false, Option, Some, None, List, [], ◌∷◌, ◌++◌, refl, sym, ap, ◌∙◌, if◌then◌else◌, filter, filter-append}
 use Rattle.strong_share.proofs.Words.{flow_of, takes, Laws, Semantics, unit_at, kept_after, output_for, same_unit, same_unit-true, same_unit_equiv, StrongJob}
 use Rattle.strong_share.proofs.Words.{IsStrongJob, packet_numbered, is_taken, is_of, fold, outputs}
+use Rattle.std.proofs.lemmas.List.Sums.{fold-append}
 use Rattle.nf_function.specs.declared.unit.Unit as units
 use Rattle.nf_function.specs.Records.{Fits}
 use Rattle.nf_function.specs.Semantics.{is_sound}
@@ -34,11 +35,7 @@ module _ {R : Type 0} (f : Semantics R) (laws : Laws f) (job : StrongJob) (is : 
   pub kept_is : (kept : Option R) (p : ℕ) → kept_after f job.site kept (packet_numbered job p) ≡ Some (after f job kept p)
   kept_is kept p = let transport = (fits p).transport in rw transport refl
 
-  -- folds and outputs go on
-  pub fold-append : (kept : Option R) (xs ys : List ℕ) → fold f job kept (xs ++ ys) ≡ fold f job (fold f job kept xs) ys
-  fold-append kept [] ys = refl
-  fold-append kept (x ∷ xs) ys = fold-append (kept_after f job.site kept (packet_numbered job x)) xs ys
-
+  -- outputs go on, and folds
   pub outputs-append : (kept : Option R) (xs ys : List ℕ) → outputs f job kept (xs ++ ys) ≡ outputs f job kept xs ++ outputs f job (fold f job kept xs) ys
   outputs-append kept [] ys = refl
   outputs-append kept (x ∷ xs) ys =
@@ -48,7 +45,7 @@ module _ {R : Type 0} (f : Semantics R) (laws : Laws f) (job : StrongJob) (is : 
       ≡ (if is_of f job u p then Some (after f job (seen f job u ps) p) else seen f job u ps)
   seen_more u ps p =
       ap (fold f job None) (filter-append (is_of f job u) ps (p ∷ []))
-      ∙ fold-append None (filter (is_of f job u) ps) (if is_of f job u p then p ∷ [] else [])
+      ∙ fold-append (λ k q. kept_after f job.site k (packet_numbered job q)) None (filter (is_of f job u) ps) (if is_of f job u p then p ∷ [] else [])
       ∙ elim (is_of f job u p) as (λ b. fold f job (seen f job u ps) (if b then p ∷ [] else [])
       ≡ (if b then Some (after f job (seen f job u ps) p) else seen f job u ps)) [
         | true ↦ kept_is (seen f job u ps) p

@@ -29,5 +29,4 @@ pub mod Ending
 pub mod Runs
 pub mod RunCalls
 pub mod StartNodes
-pub mod MemberNames
 pub mod PacketLines

@@ -1,8 +1,9 @@
 -- What is read off the messages of a scene, and how it changes where one is taken and others are sent.
-use Rattle.strong_share.proofs.Words.{◌≡◌, ℕ, zero, suc, ◌+◌, ◌<◌, ◌≤◌, Bool, true, false, List, [], ◌∷◌, ◌++◌, refl, sym, ap, subst, ◌∙◌, append_assoc}
+use Rattle.strong_share.proofs.Words.{◌≡◌, ℕ, zero, suc, ◌+◌, ◌<◌, ◌≤◌, Bool, true, false, List, [], ◌∷◌, ◌++◌, refl, sym, ap, subst, ◌∙◌}
 use Rattle.strong_share.proofs.Words.{append-nil, arith, if◌then◌else◌, ◌==◌, flat_map, nat_tests, Decides-eqb, flat_map-append, Msg, InPacket, InEnd, End}
 use Rattle.strong_share.proofs.Words.{Finish, Carry, Stop, Event, Shared, Synced, instance_node, sent_for, Each, each-append, weigh, stop_messages}
 use Rattle.event_filter.specs.declared.mark.Mark.TheVariants as mark
+use Rattle.net_world.proofs.SentMessages.{sent_for-append}
 use Rattle.strong_share.proofs.Lists.{put, two_two, swapped}
 use Rattle.strong_share.proofs.ServedPackets.{number, Answer, Answer.Told, Answer.Took}
 
@@ -88,11 +89,6 @@ taken_weighs g links j m rest is none k = elim (k == j) as (λ b. (k == j) ≡ b
 pub sent_one : (i k : ℕ) (m : Msg) → sent_for (k + 2) ((i + 2, m) ∷ []) ≡ (if k == i then m ∷ [] else [])
 sent_one i k m = ap (λ b. (if b then m ∷ [] else []) ++ []) (two_two i k ∙ swapped i k) ∙ append-nil (if k == i then m ∷ [] else [])
 
-pub sent-append : (to : ℕ) (xs ys : List (ℕ × Msg)) → sent_for to (xs ++ ys) ≡ sent_for to xs ++ sent_for to ys
-sent-append to [] ys = refl
-sent-append to (x ∷ xs) ys = ap (λ z. (if x.0 == to then x.1 ∷ [] else []) ++ z) (sent-append to xs ys)
-    ∙ sym (append_assoc (if x.0 == to then x.1 ∷ [] else []) (sent_for to xs) (sent_for to ys))
-
 -- each of the first members gets its own
 module _ (own : ℕ → List Msg) (sends : ℕ → List (ℕ × Msg)) (none : sends 0 ≡ []) (one_more : (i k : ℕ)
     → sent_for (k + 2) (sends (suc i)) ≡ sent_for (k + 2) (sends i) ++ (if k == i then own i else [])) where
@@ -111,10 +107,10 @@ module _ (own : ℕ → List Msg) (sends : ℕ → List (ℕ × Msg)) (none : se
 
 pub stops_sent : (n k : ℕ) → k < n → sent_for (k + 2) (stop_messages n) ≡ Stop ∷ []
 stops_sent =
-    sent_each (λ k. Stop ∷ []) stop_messages refl (λ i k. sent-append (k + 2) (stop_messages i) ((instance_node i, Stop) ∷ [])
+    sent_each (λ k. Stop ∷ []) stop_messages refl (λ i k. sent_for-append (k + 2) (stop_messages i) ((instance_node i, Stop) ∷ [])
     ∙ ap (λ z. sent_for (k + 2) (stop_messages i) ++ z) (sent_one i k Stop))
 
 pub stops_other : (n to : ℕ) → ((i : ℕ) → (i + 2 == to) ≡ false) → sent_for to (stop_messages n) ≡ []
 stops_other zero to apart = refl
-stops_other (suc n) to apart = sent-append to (stop_messages n) ((instance_node n, Stop) ∷ [])
+stops_other (suc n) to apart = sent_for-append to (stop_messages n) ((instance_node n, Stop) ∷ [])
     ∙ ap (λ z. z ++ sent_for to ((instance_node n, Stop) ∷ [])) (stops_other n to apart) ∙ ap (λ b. (if b then Stop ∷ [] else []) ++ []) (apart n)

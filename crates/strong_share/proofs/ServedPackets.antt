@@ -4,6 +4,7 @@ use Rattle.strong_share.proofs.Words.{◌≡◌, ℕ, zero, suc, ◌+◌, ◌<�
 use Rattle.strong_share.proofs.Words.{append_assoc, append-nil, if◌then◌else◌, ◌==◌, filter, Chunk, takes, Semantics, record_chunk, FullCell, Msg, Carry, Sync}
 use Rattle.strong_share.proofs.Words.{Each, each-append, Serving, Idle, Out, Syncing, QueuedPacket, the_share, is_home, StrongJob, packet_numbered, is_taken}
 use Rattle.strong_share.proofs.Words.{member_of}
+use Rattle.std.proofs.lemmas.List.{map-append}
 use Rattle.nf_function.specs.declared.unit.Unit as units
 use Rattle.event_filter.specs.declared.mark.Mark.TheVariants as mark
 use Rattle.strong_share.proofs.Folds.{unit, after, seen}
@@ -209,10 +210,6 @@ module _ {R : Type 0} (f : Semantics R) (job : StrongJob) where
   tight_alike o y a t e = a.queue ∙ t (sym a.serving ∙ e)
 
   -- A packet is queued.
-  map-append' : (q : List QueuedPacket) (r : QueuedPacket) → map raised_number (q ++ r ∷ []) ≡ map raised_number q ++ raised_number r ∷ []
-  map-append' [] r = refl
-  map-append' (x ∷ q) r = ap (λ z. raised_number x ∷ z) (map-append' q r)
-
   pub serves_queued : (o : Sight R) (r : QueuedPacket) → IsRaised job r → Serves o
       → Serves (record o { queue = o.queue ++ r ∷ []; queued = o.queued ++ raised_number r ∷ [] })
   serves_queued o r ok h = record {
@@ -223,7 +220,7 @@ module _ {R : Type 0} (f : Semantics R) (job : StrongJob) where
     to = h.to;
     answers = h.answers;
     order = ap (λ z. z ++ raised_number r ∷ []) h.order ∙ append_assoc (all_of h.stage h.d ++ waits_of h.stage) (map raised_number o.queue)
-        (raised_number r ∷ []) ∙ ap (λ z. (all_of h.stage h.d ++ waits_of h.stage) ++ z) (sym (map-append' o.queue r));
+        (raised_number r ∷ []) ∙ ap (λ z. (all_of h.stage h.d ++ waits_of h.stage) ++ z) (sym (map-append raised_number o.queue (r ∷ [])));
     done = h.done;
     queue = each-append (IsRaised job) o.queue (r ∷ []) h.queue (ok, tt);
     own = h.own;

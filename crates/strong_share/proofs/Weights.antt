@@ -1,10 +1,11 @@
 -- What messages weigh: a run can't be longer than what it weighs at first; and how many cells and stopped members there are.
-use Rattle.strong_share.proofs.Words.{◌≡◌, ℕ, zero, suc, ◌+◌, ◌*◌, ◌<◌, ◌≤◌, Bool, true, false, List, [], ◌∷◌, ◌++◌, length, refl, ap, subst, ◌∙◌, arith}
+use Rattle.strong_share.proofs.Words.{◌≡◌, ℕ, zero, suc, ◌+◌, ◌*◌, ◌<◌, ◌≤◌, Bool, true, false, List, [], ◌∷◌, length, refl, ap, subst, ◌∙◌, arith}
 use Rattle.strong_share.proofs.Words.{if◌then◌else◌, ◌==◌, ◌&&◌, not, nat_lt, nat_tests, Decides-eqb, Decides-ltb, Chunk, Msg, InPacket, InEnd, End, Finish}
 use Rattle.strong_share.proofs.Words.{Carry, Stop, Event, Shared, Sync, Synced, Final, Credit, instance_node, InstanceState, reaches, Each, weigh}
 use Rattle.strong_share.proofs.Words.{weigh-append, sent_weight, Serving, Idle, QueuedPacket, ControllerState, serve_row, serve_step, syncs, is_home}
 use Rattle.strong_share.proofs.Words.{the_share, sync_to, stop_messages}
 use Rattle.event_filter.specs.declared.mark.Mark.TheVariants as mark
+use Rattle.net_world.proofs.SentMessages.{sent_weight-append}
 use Rattle.strong_share.proofs.Lists.{put, two_zero}
 use Rattle.strong_share.proofs.MemberLists.{sync_of, syncs_more}
 use Rattle.strong_share.proofs.ServedPackets.{count_below, one_if}
@@ -82,14 +83,10 @@ stops_cost o zero = omega arith
 stops_cost o (suc n) = let rest = stops_cost o n in let both = weigh-append (λ (s : ℕ × Msg). weight o s.1) (stop_messages n) ((instance_node n, Stop) ∷ []) in
     omega (arith, rest, both)
 
-sent-append : (g : Msg → ℕ) (n k : ℕ) (xs ys : List (ℕ × Msg)) → sent_weight g n k (xs ++ ys) ≡ sent_weight g n k xs + sent_weight g n k ys
-sent-append g n k [] ys = omega arith
-sent-append g n k (x ∷ xs) ys = let rest = sent-append g n k xs ys in omega (arith, rest)
-
 pub stops_none : (g : Msg → ℕ) (n k i : ℕ) → g Stop ≡ 0 → sent_weight g n k (stop_messages i) ≡ 0
 stops_none g n k zero e = omega arith
 stops_none g n k (suc i) e = let rest = stops_none g n k i e in let one = none_sent g n k (instance_node i) Stop e in
-    let both = sent-append g n k (stop_messages i) ((instance_node i, Stop) ∷ []) in omega (arith, rest, one, both)
+    let both = sent_weight-append g n k (stop_messages i) ((instance_node i, Stop) ∷ []) in omega (arith, rest, one, both)
 
 -- the chunks that go round
 sync_cost : (o m i : ℕ) (chunk : Chunk) → cost o (sync_of m chunk i) ≡ (if i == m then 0 else 2)
@@ -132,7 +129,7 @@ syncs_none g n k m zero chunk e = omega arith
 syncs_none g n k m (suc i) chunk e =
     let rest = syncs_none g n k m i chunk e in
     let one = to_one (i == m) in
-    let both = ap (sent_weight g n k) (syncs_more i m chunk) ∙ sent-append g n k (syncs i m chunk) (sync_of m chunk i) in
+    let both = ap (sent_weight g n k) (syncs_more i m chunk) ∙ sent_weight-append g n k (syncs i m chunk) (sync_of m chunk i) in
     omega (arith, rest, one, both)
   where
     to_one : (b : Bool) → sent_weight g n k (if b then [] else sync_to chunk i ∷ []) ≡ 0
