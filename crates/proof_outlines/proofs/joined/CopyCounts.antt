@@ -4,6 +4,7 @@ use Rattle.proof_outlines.proofs.Words.{◌≡◌, ℕ, ◌+◌, ◌≤◌, true
 use Rattle.proof_outlines.proofs.Words.{filter_map, nat_tests, Chunk, Answer, Order, Msg, instance_node, op_of, CopyPhase, CopyPlan, CopyRow, Operation, Copy}
 use Rattle.proof_outlines.proofs.Words.{OpenOperations, Turn, turn_of, serving_of, lasts, with_operation, place_of, ControllerState, Each, by_if}
 use Rattle.std.specs.FinMap as finite
+use Rattle.actor_net.proofs.WeightLaws.{weigh, weigh-append}
 use Rattle.copy_share.specs.Copy as copy
 use Rattle.ctrl_node.specs.Controller as ctrl
 use Rattle.proof_outlines.proofs.outline.OperationTables.{got_insert, got_remove}
@@ -27,12 +28,10 @@ keeping o = 0
 
 -- how many are sent
 abbrev pub keeps_sent : ℕ → List (ℕ × Msg) → ℕ
-keeps_sent n [] = 0
-keeps_sent n (x ∷ xs) = keeps_of n x.1 + keeps_sent n xs
+keeps_sent n sends = weigh (λ x. keeps_of n x.1) sends
 
 pub keeps_sent-append : (n : ℕ) (xs ys : List (ℕ × Msg)) → keeps_sent n (xs ++ ys) ≡ keeps_sent n xs + keeps_sent n ys
-keeps_sent-append n [] ys = omega arith
-keeps_sent-append n (x ∷ xs) ys = let rest = keeps_sent-append n xs ys in omega (arith, rest)
+keeps_sent-append n xs ys = weigh-append (λ (x : ℕ × Msg). keeps_of n x.1) xs ys
 
 abbrev pub IsLight : ℕ → Msg → Type 0
 IsLight n m = keeps_of n m ≡ 0

@@ -269,11 +269,13 @@ module _ {R : Type 0} (f : Semantics R) (g : Given) where
       record { all = filter (is_of f g u) (arrivals_in log); diverted = diverted_in g (is_of f g u) u [] log; bared = loose_by g u (installs_in log) }
 
 -- the numbers of the commands that are asked for on a link
+abbrev pub asked_num : {R : Type 0} → Any R → Option ℕ
+asked_num (Old (net.Asked x)) = Some x.num
+asked_num (New (S_asked x)) = Some x.num
+asked_num m = None
+
 abbrev pub asked_nums : {R : Type 0} → List (Any R) → List ℕ
-asked_nums [] = []
-asked_nums (Old (net.Asked x) ∷ ms) = x.num ∷ asked_nums ms
-asked_nums (New (S_asked x) ∷ ms) = x.num ∷ asked_nums ms
-asked_nums (m ∷ ms) = asked_nums ms
+asked_nums ms = filter_map asked_num ms
 
 -- what a step finds: the nodes, the world of the abstract network that shows them, the log, and the input
 pub record Scene (F : Type 0) {R : Type 0} (f : Semantics R) (g : Given) : Type 0 where

@@ -7,6 +7,7 @@ use Rattle.proof_outlines.proofs.Words.{IsMoving, IsPlace, Owns, Is_destination,
 use Rattle.proof_outlines.proofs.Words.{none_picked, Unit}
 use Rattle.net_world.specs.Jobs.{Job}
 use Rattle.net_world.specs.Commands.{has_answered, is_busy}
+use Rattle.std.proofs.lemmas.List.Sums.{fold-append}
 use Rattle.net_world.specs.Places.{goes_to}
 use Rattle.proof_outlines.proofs.outline.FiltersApart.{flow_fits, unit_fits}
 use Rattle.proof_outlines.proofs.joined.PlaceNotes.{IsQuiet, is_uninstalled}
@@ -19,8 +20,7 @@ unit_is_fit kind flow e = (and_parts _ _ (and_parts _ _ e).1).0
 module _ (names : List (List ℕ)) (orders : ℕ → Option Order) where
   pub owner_after-append : (u : Unit) (i : ℕ) (xs ys : List ℕ)
       → owner_after names orders u i (xs ++ ys) ≡ owner_after names orders u (owner_after names orders u i xs) ys
-  owner_after-append u i [] ys = refl
-  owner_after-append u i (op ∷ xs) ys = owner_after-append u (owner_after_order names orders u (orders op) i) xs ys
+  owner_after-append u i xs ys = fold-append (λ owner op. owner_after_order names orders u (orders op) owner) i xs ys
 
   pub loose_after-append : (u : Unit) (i : ℕ) (xs ys : List ℕ)
       → loose_after names orders u i (xs ++ ys) ≡ loose_after names orders u i xs || loose_after names orders u (owner_after names orders u i xs) ys

@@ -1,30 +1,29 @@
 -- The numbers of commands that wait for the controller, copies' among them: which messages have one, what the switch sends of them, and what the
 -- abstract network sees of them.
 use Rattle.proof_outlines.proofs.Words.{◌≡◌, ℕ, zero, suc, ◌≤◌, Bool, true, false, Option, Some, None, List, [], ◌∷◌, ◌++◌, refl, sym, ap, ◌∙◌, subst}
-use Rattle.proof_outlines.proofs.Words.{append_assoc, arith, if◌then◌else◌, ◌&&◌, ◌||◌, ◌==◌, not, nat_lt, option_map, filter_map, Decides-eqb, Semantics}
+use Rattle.proof_outlines.proofs.Words.{arith, if◌then◌else◌, ◌&&◌, ◌||◌, ◌==◌, not, nat_lt, option_map, filter_map, Decides-eqb, Semantics}
 use Rattle.proof_outlines.proofs.Words.{Target, spelled, Packet, Command, Order, Msg, instance_node, SwitchState, sends_to_instance, goes_to, stop_messages}
 use Rattle.proof_outlines.proofs.Words.{switch_step, has_room, is_there, target_of, at, MoveAsked, Rising, rising_less, Any, Old, New, WantShare, S_asked}
 use Rattle.proof_outlines.proofs.Words.{S_shared, Mark, Unit}
 use Rattle.switch_node.specs.Switch.{Step, still}
+use Rattle.std.proofs.lemmas.List.Elements.{filter_map-append}
 use Rattle.actor_net.specs.Histories.{sent_for}
+use Rattle.net_world.proofs.SentMessages.{sent_for-append}
 use Rattle.proof_machines.proofs.net.Net as net
 use Rattle.proof_outlines.proofs.joined.Words.{want_of, want_share_of, asked_of, is_wanted, Given, place, Label, shown, commands, asked_nums, Grows}
 use Rattle.proof_outlines.proofs.joined.SwitchLemmas.{want_num}
 use Rattle.proof_outlines.proofs.joined.JoinedSteps.{label}
 
 -- the numbers of commands that wait for the controller
+abbrev pub number_in : Msg → Option ℕ
+number_in (Msg.Asked c) = Some c.op
+number_in m = None
+
 abbrev pub numbers : List Msg → List ℕ
-numbers [] = []
-numbers (Msg.Asked c ∷ ms) = c.op ∷ numbers ms
-numbers (m ∷ ms) = numbers ms
+numbers ms = filter_map number_in ms
 
 abbrev pub IsUnasked : Msg → Type 0
 IsUnasked m = numbers (m ∷ []) ≡ []
-
-pub numbers-append : (xs ys : List Msg) → numbers (xs ++ ys) ≡ numbers xs ++ numbers ys
-numbers-append [] ys = refl
-numbers-append (Msg.Asked c ∷ xs) ys = ap (λ v. c.op ∷ v) (numbers-append xs ys)
-numbers-append (m ∷ xs) ys = numbers-append xs ys
 
 -- What the switch sends to the controller has the number of the command that it takes.
 one_unasked : (to : ℕ) (m : Msg) → IsUnasked m → numbers (sent_for 1 ((to, m) ∷ [])) ≡ []
@@ -32,14 +31,9 @@ one_unasked to m e = elim (to == 1) as (λ b. numbers ((if b then m ∷ [] else 
 
 none_stopped : (i : ℕ) → numbers (sent_for 1 (stop_messages i)) ≡ []
 none_stopped zero = refl
-none_stopped (suc i) = ap numbers (sent_put (stop_messages i) ((instance_node i, Msg.Stop) ∷ []))
-    ∙ numbers-append (sent_for 1 (stop_messages i)) (sent_for 1 ((instance_node i, Msg.Stop) ∷ []))
+none_stopped (suc i) = ap numbers (sent_for-append 1 (stop_messages i) ((instance_node i, Msg.Stop) ∷ []))
+    ∙ filter_map-append number_in (sent_for 1 (stop_messages i)) (sent_for 1 ((instance_node i, Msg.Stop) ∷ []))
     ∙ ap (λ v. v ++ numbers (sent_for 1 ((instance_node i, Msg.Stop) ∷ []))) (none_stopped i) ∙ one_unasked (instance_node i) Msg.Stop refl
-  where
-    sent_put : (xs ys : List (ℕ × Msg)) → sent_for 1 (xs ++ ys) ≡ sent_for 1 xs ++ sent_for 1 ys
-    sent_put [] ys = refl
-    sent_put (x ∷ xs) ys = ap (λ v. (if x.0 == 1 then x.1 ∷ [] else []) ++ v) (sent_put xs ys)
-        ∙ sym (append_assoc (if x.0 == 1 then x.1 ∷ [] else []) (sent_for 1 xs) (sent_for 1 ys))
 
 module _ (s : SwitchState) where
   abbrev Quiet : Step → Type 0

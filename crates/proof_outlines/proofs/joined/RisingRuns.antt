@@ -4,9 +4,10 @@ use Rattle.proof_outlines.proofs.Words.{◌≡◌, ℕ, suc, ◌+◌, ◌<◌, t
 use Rattle.proof_outlines.proofs.Words.{append-nil, arith, ◌&&◌, ◌==◌, nat_lt, filter_map, nat_tests, Decides-eqb, and-false, Semantics, Order, Msg, Note}
 use Rattle.proof_outlines.proofs.Words.{Choice, Network, is_input, queue_at, world_next, at, put_on_link, less_first, Takes, taken_outcome, Taking, Rising}
 use Rattle.proof_outlines.proofs.Words.{rising_less, Node, node_step, node_ready, either_way}
+use Rattle.std.proofs.lemmas.List.Elements.{filter_map-append}
 use Rattle.proof_outlines.proofs.joined.Words.{asked_of, Given, place, Label, count, shown, commands, asked_nums, node_of, Grows, Scene, Joined}
 use Rattle.proof_outlines.proofs.joined.ControllerBegins.{OrderNext, CopiesNext}
-use Rattle.proof_outlines.proofs.joined.RisingNumbers.{numbers, IsUnasked, numbers-append, switch_numbers, commands_behind, unasked_by, no_command, grows_low}
+use Rattle.proof_outlines.proofs.joined.RisingNumbers.{numbers, number_in, IsUnasked, switch_numbers, commands_behind, unasked_by, no_command, grows_low}
 use Rattle.proof_outlines.proofs.joined.RisingNumbers.{rising_shown}
 use Rattle.proof_outlines.proofs.joined.JoinedSteps.{NodeLeads, scene, label, input_after, step_leads, joined_after, after_world, takes_at, ready_at}
 use Rattle.proof_outlines.proofs.joined.JoinedSteps.{joined_next, next_is}
@@ -70,7 +71,7 @@ module _ {F R : Type 0} (f : Semantics R) (g : Given) where
           by_parts (queue_at w (at 1 0) ++ put_on_link n k 0 1 sends) (less_first ((0 == k) && (0 == p)) (queue_at w (at 0 0)))
           (asked_after ∙ ap (λ b. less_first b (queue_at w (at 1 0)) ++ put_on_link n k 0 1 sends) off) items_after
           ∙ ap (λ v. v ++ commands f g (less_first ((0 == k) && (0 == p)) (queue_at w (at 0 0))))
-          (numbers-append (queue_at w (at 1 0)) (put_on_link n k 0 1 sends) ∙ ap (λ v. numbers (queue_at w (at 1 0)) ++ v) sent)
+          (filter_map-append number_in (queue_at w (at 1 0)) (put_on_link n k 0 1 sends) ∙ ap (λ v. numbers (queue_at w (at 1 0)) ++ v) sent)
           ∙ append_assoc (numbers (queue_at w (at 1 0))) (commands f g (m ∷ [])) (commands f g (less_first ((0 == k) && (0 == p)) (queue_at w (at 0 0))))
           ∙ ap (λ v. numbers (queue_at w (at 1 0)) ++ v) (input_parts zero_is)
 

@@ -8,14 +8,16 @@ use Rattle.proof_outlines.proofs.Words.{asks, whole_input, comes, EveryAll, inpu
 use Rattle.proof_outlines.proofs.Words.{arrivals_in, installs_in, arrived-append, by_if, Unit, Mark, split}
 use Rattle.switch_node.specs.Switch.{still}
 use Rattle.proof_machines.proofs.net.Net as net
+use Rattle.std.proofs.lemmas.List.Elements.{filter_map-append}
 use Rattle.proof_outlines.proofs.joined.Words.{unit_fits, want_of, is_sys, asked_of, outline_all, is_sharing, want_share_of, asked_move, asked_share}
 use Rattle.proof_outlines.proofs.joined.Words.{asked_none, is_wanted, command_unseen, target_node, GoesToTarget, Given, place, is_diverted, owner_by}
-use Rattle.proof_outlines.proofs.joined.Words.{diverted_in, target_by, Genuine, GenuinePacket, IsCommand, IsSwitch, Label, S, A, asked_nums, came_by, commands}
+use Rattle.proof_outlines.proofs.joined.Words.{diverted_in, target_by, Genuine, GenuinePacket, IsCommand, IsSwitch, Label, S, A, asked_num, asked_nums, came_by}
+use Rattle.proof_outlines.proofs.joined.Words.{commands}
 use Rattle.proof_outlines.proofs.joined.Words.{is_of, shown, Scene, AreShown, Leads, same_grows}
 use Rattle.proof_outlines.proofs.whole.SwitchWorlds.{command_takes, packet_takes}
 use Rattle.proof_outlines.proofs.joined.LogLemmas.{diverted_in-append, every_same, owners_on, loose_on}
 use Rattle.proof_outlines.proofs.joined.OwnerLemmas.{unit_is_fit}
-use Rattle.proof_outlines.proofs.joined.SwitchLemmas.{rising_without, want_num, after, asked_nums-append, every_on, others_same, quiet, same_switch}
+use Rattle.proof_outlines.proofs.joined.SwitchLemmas.{rising_without, want_num, after, every_on, others_same, quiet, same_switch}
 
 -- the message that a packet goes on in, by its target
 abbrev message_for : Target → FullCell → Msg
@@ -88,7 +90,7 @@ module _ {F R : Type 0} (f : Semantics R) (g : Given) (n : ℕ) (x : Scene F f g
       let next : WholeWorld (S f g) (A f g) = whole_input (S f g) (A f g) x.world q.number in
       let takes = packet_takes f g.site g.packet (place g) x.world s are.switch.routes q are.switch.site genuine.same genuine.fits room in
       let outs : List (ℕ × Any R) = arrive_sends (S f g) (A f g) (x.world.target (unit_at f.kind g.site (g.packet q.number))) q.number in
-      let kept : asked_nums (next.link 0 1) ≡ asked_nums (x.world.link 0 1) = asked_nums-append (x.world.link 0 1) (sent_for 1 outs)
+      let kept : asked_nums (next.link 0 1) ≡ asked_nums (x.world.link 0 1) = filter_map-append asked_num (x.world.link 0 1) (sent_for 1 outs)
       ∙ ap (λ v. asked_nums (x.world.link 0 1) ++ v) (none_arrives f g (x.world.target (unit_at f.kind g.site (g.packet q.number))) q.number)
       ∙ append-nil (asked_nums (x.world.link 0 1)) in
       let every = every_same (S f g) (A f g) (is_sys f g.site g.packet) next _ _ (came_in q genuine)
@@ -129,7 +131,8 @@ module _ {F R : Type 0} (f : Semantics R) (g : Given) (n : ℕ) (x : Scene F f g
     asked_leads m e num every =
         let next : WholeWorld (S f g) (A f g) = asks (S f g) (A f g) x.world m in
         let rising : asked_nums (next.link 0 1) ++ commands f g (drop 1 x.input) ≡ asked_nums (x.world.link 0 1) ++ c.op ∷ commands f g items =
-        ap (λ v. v ++ commands f g (drop 1 x.input)) (asked_nums-append (x.world.link 0 1) (m ∷ []) ∙ ap (λ v. asked_nums (x.world.link 0 1) ++ v) num)
+        ap (λ v. v ++ commands f g (drop 1 x.input))
+        (filter_map-append asked_num (x.world.link 0 1) (m ∷ []) ∙ ap (λ v. asked_nums (x.world.link 0 1) ++ v) num)
         ∙ append_assoc (asked_nums (x.world.link 0 1)) (c.op ∷ []) (commands f g (drop 1 x.input))
         ∙ ap (λ v. asked_nums (x.world.link 0 1) ++ c.op ∷ v) left in
         record {

@@ -1,20 +1,15 @@
 -- What the steps of the switch have in common: what stays, and a step on a message that the abstract network doesn't see.
 use Rattle.proof_outlines.proofs.Words.{◌≡◌, ◌≢◌, ℕ, zero, suc, true, false, Option, Some, None, List, [], ◌∷◌, ◌++◌, refl, sym, ap, ◌∙◌, subst, append-nil}
 use Rattle.proof_outlines.proofs.Words.{arith, if◌then◌else◌, ◌&&◌, ◌==◌, Semantics, AreFilters, Order, Msg, Note, instance_node, SwitchState, stop_messages}
-use Rattle.proof_outlines.proofs.Words.{less_first, EachSent, sent_for, MoveAsked, Rising, rising_less, Any, Old, New, WholeWorld, EveryAll, Switch, dones_in}
+use Rattle.proof_outlines.proofs.Words.{less_first, EachSent, sent_for, MoveAsked, Rising, rising_less, Any, WholeWorld, EveryAll, Switch, dones_in}
 use Rattle.proof_outlines.proofs.Words.{installs_in, sent-append, done-append, Unit, split}
+use Rattle.std.proofs.lemmas.List.Elements.{filter_map-append}
 use Rattle.proof_machines.proofs.net.Net as net
 use Rattle.proof_machines.proofs.net.Shares as shares
 use Rattle.proof_outlines.proofs.joined.Words.{unit_fits, want_at, want_of, is_sys, outline_all, routes_same, Given, place, target_by, Nodes, node_of, Label}
-use Rattle.proof_outlines.proofs.joined.Words.{shown, S, A, asked_nums, came_by, commands, by_node, IsSwitch, Scene, AreShown, Leads, same_grows}
+use Rattle.proof_outlines.proofs.joined.Words.{shown, S, A, asked_num, asked_nums, came_by, commands, by_node, IsSwitch, Scene, AreShown, Leads, same_grows}
 use Rattle.proof_outlines.proofs.joined.Words.{instance_stays}
 use Rattle.proof_outlines.proofs.joined.LogLemmas.{came_on, every_same, owners_on}
-
-pub asked_nums-append : {R : Type 0} (xs ys : List (Any R)) → asked_nums (xs ++ ys) ≡ asked_nums xs ++ asked_nums ys
-asked_nums-append [] ys = refl
-asked_nums-append (Old (net.Asked x) ∷ xs) ys = ap (λ v. x.num ∷ v) (asked_nums-append xs ys)
-asked_nums-append (New (shares.S_asked x) ∷ xs) ys = ap (λ v. x.num ∷ v) (asked_nums-append xs ys)
-asked_nums-append (m ∷ xs) ys = asked_nums-append xs ys
 
 -- no command among what is sent
 abbrev pub NoneAsked : {R : Type 0} → List (ℕ × Any R) → Type 0
@@ -25,11 +20,11 @@ NoneAsked (x ∷ xs) = (asked_nums (x.1 ∷ []) ≡ []) × NoneAsked xs
 pub nums_sent : {R : Type 0} (r : ℕ) (xs : List (ℕ × Any R)) → NoneAsked xs → asked_nums (sent_for r xs) ≡ []
 nums_sent r [] h = refl
 nums_sent r (x ∷ xs) h = split (x.0 == r) (λ b. asked_nums (if b then x.1 ∷ sent_for r xs else sent_for r xs) ≡ [])
-    (λ _. asked_nums-append (x.1 ∷ []) (sent_for r xs) ∙ ap (λ v. v ++ asked_nums (sent_for r xs)) h.0 ∙ nums_sent r xs h.1) (λ _. nums_sent r xs h.1)
+    (λ _. filter_map-append asked_num (x.1 ∷ []) (sent_for r xs) ∙ ap (λ v. v ++ asked_nums (sent_for r xs)) h.0 ∙ nums_sent r xs h.1) (λ _. nums_sent r xs h.1)
 
 -- and where none is put on a link
 pub nums_put : {R : Type 0} (l : List (Any R)) (r : ℕ) (xs : List (ℕ × Any R)) → NoneAsked xs → asked_nums (l ++ sent_for r xs) ≡ asked_nums l
-nums_put l r xs h = asked_nums-append l (sent_for r xs) ∙ ap (λ v. asked_nums l ++ v) (nums_sent r xs h) ∙ append-nil (asked_nums l)
+nums_put l r xs h = filter_map-append asked_num l (sent_for r xs) ∙ ap (λ v. asked_nums l ++ v) (nums_sent r xs h) ∙ append-nil (asked_nums l)
 
 -- a number less still rises
 pub rising_without : (b k : ℕ) (xs ys : List ℕ) → Rising b (xs ++ k ∷ ys) → Rising b (xs ++ ys)

@@ -3,17 +3,16 @@ use Rattle.proof_outlines.proofs.Words.{◌≡◌, ℕ, ◌+◌, ◌≤◌, fals
 use Rattle.proof_outlines.proofs.Words.{AllByRecursion, keys_of, Semantics, same_unit, spelled, same_unit_equiv, same_unit-true, Piece, chunks_of, Each, Chunks}
 use Rattle.proof_outlines.proofs.Words.{record_at, have, split, Unit, IsDistinct}
 use Rattle.proof_outlines.proofs.joined.Words.{entries, outline_piece, filter_map-put, Given, AreGoodChunks}
+use Rattle.actor_net.proofs.WeightLaws.{weigh, weigh-append}
 use Rattle.proof_machines.proofs.net.Copies.{has}
 
 module _ {R : Type 0} where
   -- how many entries are the unit's
   abbrev pub times : Unit → Chunks R → ℕ
-  times u [] = 0
-  times u (e ∷ es) = (if same_unit u e.0 then 1 else 0) + times u es
+  times u es = weigh (λ e. if same_unit u e.0 then 1 else 0) es
 
   pub times-append : (u : Unit) (xs ys : Chunks R) → times u (xs ++ ys) ≡ times u xs + times u ys
-  times-append u [] ys = omega arith
-  times-append u (e ∷ xs) ys = let rest = times-append u xs ys in omega (arith, rest)
+  times-append u xs ys = weigh-append (λ (e : Unit × R). if same_unit u e.0 then 1 else 0) xs ys
 
   -- none of the entries is the unit's
   none_same : (u : Unit) (es : Chunks R) → times u es ≡ 0 → AllByRecursion (λ y. same_unit u y ≡ false) (keys_of es)
