@@ -158,13 +158,13 @@ module _ {U T C R O : Type 0} (S : System U T C R O) where
   end_stays input one quiet ended (On_link empty there not_yet) = On_link (input ∙ empty) (one there) (ended ∙ not_yet)
   end_stays input one quiet ended (Has_come empty none has) = Has_come (input ∙ empty) (quiet none) (ended ∙ has)
 
-  more_sc : (v w : World T C O) (xs : List (Msg C)) → Each (Label S Sc) xs → Each Quiet xs → w.input ≡ v.input → w.sc ≡ v.sc ++ xs → w.ct.ended ≡ v.ct.ended
+  more_sc : {v w : World T C O} (xs : List (Msg C)) → Each (Label S Sc) xs → Each Quiet xs → w.input ≡ v.input → w.sc ≡ v.sc ++ xs → w.ct.ended ≡ v.ct.ended
       → EndAt v → EndAt w
-  more_sc v w xs l q input sc ended h =
+  more_sc {v} xs l q input sc ended h =
       end_stays input (λ one. rw sc (one_end_more v.sc xs one q)) (λ none. rw sc (each-append NotEnd v.sc xs none (not_end xs l q))) ended h
 
-  same_sc : (v w : World T C O) → w.input ≡ v.input → w.sc ≡ v.sc → w.ct.ended ≡ v.ct.ended → EndAt v → EndAt w
-  same_sc v w input sc ended h = end_stays input (λ one. rw sc one) (λ none. rw sc none) ended h
+  same_sc : {v w : World T C O} → w.input ≡ v.input → w.sc ≡ v.sc → w.ct.ended ≡ v.ct.ended → EndAt v → EndAt w
+  same_sc input sc ended h = end_stays input (λ one. rw sc one) (λ none. rw sc none) ended h
 
   end_sc : (v : World T C O) (m : Msg C) (rest : List (Msg C)) → Label S Sc m → IsSelected S v.ct.kept → EndAt (with_waits S Sc (m ∷ rest) v)
       → EndAt (result S Sc (with_waits S Sc rest v) m)
@@ -200,23 +200,13 @@ module _ {U T C R O : Type 0} (S : System U T C R O) where
   pub end_goes : (pl : Place) (v : World T C O) (m : Msg C) (rest : List (Msg C)) → Label S pl m → Ready pl v m → IsSelected S v.ct.kept
       → EndAt (with_waits S pl (m ∷ rest) v) → EndAt (result S pl (with_waits S pl rest v) m)
   end_goes In v m rest h ready k e = end_in v m rest h ready e
-  end_goes Cs v m rest h ready k e =
-      more_sc (with_waits S Cs (m ∷ rest) v) (result S Cs (with_waits S Cs rest v) m) (sent 1 (switch_step S v.sw m).sends) (on_sc_cs v.sw m h)
-      (quiet_cs v.sw m h) refl refl refl e
-  end_goes Aw v m rest h ready k e =
-      let none = quiet_back v.sw m h in
-      same_sc (with_waits S Aw (m ∷ rest) v) (result S Aw (with_waits S Aw rest v) m) refl (rw none (append-nil v.sc)) refl e
-  end_goes Bw v m rest h ready k e =
-      let none = quiet_back v.sw m h in
-      same_sc (with_waits S Bw (m ∷ rest) v) (result S Bw (with_waits S Bw rest v) m) refl (rw none (append-nil v.sc)) refl e
+  end_goes Cs v m rest h ready k e = more_sc (sent 1 (switch_step S v.sw m).sends) (on_sc_cs v.sw m h) (quiet_cs v.sw m h) refl refl refl e
+  end_goes Aw v m rest h ready k e = same_sc refl (rw (quiet_back v.sw m h) (append-nil v.sc)) refl e
+  end_goes Bw v m rest h ready k e = same_sc refl (rw (quiet_back v.sw m h) (append-nil v.sc)) refl e
   end_goes Sc v m rest h ready k e = end_sc v m rest h k e
-  end_goes Ac v m rest h ready k e =
-      let same = (ctrl_ok S v.ct 2 m k (gives S Ac m h)).ended ∙ ended_at Ac m v.ct h (λ never. cc) in
-      same_sc (with_waits S Ac (m ∷ rest) v) (result S Ac (with_waits S Ac rest v) m) refl refl same e
-  end_goes Bc v m rest h ready k e =
-      let same = (ctrl_ok S v.ct 3 m k (gives S Bc m h)).ended ∙ ended_at Bc m v.ct h (λ never. cc) in
-      same_sc (with_waits S Bc (m ∷ rest) v) (result S Bc (with_waits S Bc rest v) m) refl refl same e
-  end_goes Sa v m rest h ready k e = same_sc (with_waits S Sa (m ∷ rest) v) (result S Sa (with_waits S Sa rest v) m) refl refl refl e
-  end_goes Ca v m rest h ready k e = same_sc (with_waits S Ca (m ∷ rest) v) (result S Ca (with_waits S Ca rest v) m) refl refl refl e
-  end_goes Sb v m rest h ready k e = same_sc (with_waits S Sb (m ∷ rest) v) (result S Sb (with_waits S Sb rest v) m) refl refl refl e
-  end_goes Cb v m rest h ready k e = same_sc (with_waits S Cb (m ∷ rest) v) (result S Cb (with_waits S Cb rest v) m) refl refl refl e
+  end_goes Ac v m rest h ready k e = same_sc refl refl ((ctrl_ok S v.ct 2 m k (gives S Ac m h)).ended ∙ ended_at Ac m v.ct h (λ never. cc)) e
+  end_goes Bc v m rest h ready k e = same_sc refl refl ((ctrl_ok S v.ct 3 m k (gives S Bc m h)).ended ∙ ended_at Bc m v.ct h (λ never. cc)) e
+  end_goes Sa v m rest h ready k e = same_sc refl refl refl e
+  end_goes Ca v m rest h ready k e = same_sc refl refl refl e
+  end_goes Sb v m rest h ready k e = same_sc refl refl refl e
+  end_goes Cb v m rest h ready k e = same_sc refl refl refl e

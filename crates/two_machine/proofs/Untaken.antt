@@ -29,9 +29,9 @@ module _ {U T C R O : Type 0} (S : System U T C R O) (laws : Laws S) (u : U) (no
       ap (folded (its_frame S laws u) None) (read-append ran log notes) ∙ fold-append (stepped (its_frame S laws u)) None (read ran log) (read ran notes)
 
   -- a step that processes nothing, and brings nothing in
-  quietly : (v w : World T C O) (notes : List (Note O)) → w.log ≡ v.log ++ notes → read ran notes ≡ [] → read arrived notes ≡ []
+  quietly : {v w : World T C O} (notes : List (Note O)) → w.log ≡ v.log ++ notes → read ran notes ≡ [] → read arrived notes ≡ []
       → S.at w.a.table u ≡ S.at v.a.table u → S.at w.b.table u ≡ S.at v.b.table u → own (read carries w.sa) ≡ own (read carries v.sa) → Stays v → Stays w
-  quietly v w notes log no_ran no_came a b sa h =
+  quietly {v} notes log no_ran no_came a b sa h =
       let rans : read ran (v.log ++ notes) ≡ read ran v.log = read-append ran v.log notes ∙ rw no_ran (append-nil (read ran v.log)) in
       let came : read arrived (v.log ++ notes) ≡ read arrived v.log = read-append arrived v.log notes ∙ rw no_came (append-nil (read arrived v.log)) in
       record {
@@ -70,15 +70,13 @@ module _ {U T C R O : Type 0} (S : System U T C R O) (laws : Laws S) (u : U) (no
     where
       others : (did : Step S (Inst T)) → did.notes ≡ [] → did.node.table ≡ v.a.table → S.covers p ≡ true → Stays (put_a S (record v { sa = rest }) did)
       others did quiet same covers =
-          quietly (record v { sa = Carry p ∷ rest }) (put_a S (record v { sa = rest }) did) [] (ap (λ ns. v.log ++ ns) quiet) refl refl
-          (ap (λ t. S.at t u) same) refl (less_a p rest (other_cover S laws u not_its p covers)) h
+          quietly [] (ap (λ ns. v.log ++ ns) quiet) refl refl (ap (λ t. S.at t u) same) refl (less_a p rest (other_cover S laws u not_its p covers)) h
 
       by : {did : Step S (Inst T)} → Carried S 0 v.a p did → Stays (put_a S (record v { sa = rest }) did)
       by (Runs free) = runs_a v p rest h
       by {did} (Hands_out drops covers) = others did refl refl covers
       by {did} (Held covers) = others did refl refl covers
-  stays_sa v Stop rest l h =
-      quietly (record v { sa = Stop ∷ rest }) (put_a S (record v { sa = rest }) (inst_step S 0 v.a Stop)) [] refl refl refl refl refl refl h
+  stays_sa v Stop rest l h = quietly [] refl refl refl refl refl refl h
   stays_sa v x rest l h = absurd l
 
   no_chunk : (s : T) → S.has (S.select s) u ≡ None
@@ -86,21 +84,20 @@ module _ {U T C R O : Type 0} (S : System U T C R O) (laws : Laws S) (u : U) (no
 
   stays_ca : (v : World T C O) (x : Msg C) (rest : List (Msg C)) → Label S Ca x → Stays (record v { ca = x ∷ rest })
       → Stays (put_a S (record v { ca = rest }) (inst_step S 0 v.a x))
-  stays_ca v (Enable r) rest l h =
-      quietly (record v { ca = Enable r ∷ rest }) (put_a S (record v { ca = rest }) (inst_step S 0 v.a (Enable r))) [] refl refl refl refl refl refl h
-  stays_ca v Get rest l h = quietly (record v { ca = Get ∷ rest }) (put_a S (record v { ca = rest }) (inst_step S 0 v.a Get)) [] refl refl refl refl refl refl h
+  stays_ca v (Enable r) rest l h = quietly [] refl refl refl refl refl refl h
+  stays_ca v Get rest l h = quietly [] refl refl refl refl refl refl h
   stays_ca v (Delete c) rest l h =
       let made = l.1 in
       let none = no_chunk l.0 in
       let kept : S.at (S.delete c v.a.table) u ≡ S.at v.a.table u = rw made (laws.deleted v.a.table l.0 u ∙ rw none refl) in
-      quietly (record v { ca = Delete c ∷ rest }) (put_a S (record v { ca = rest }) (inst_step S 0 v.a (Delete c))) [] refl refl refl kept refl refl h
+      quietly [] refl refl refl kept refl refl h
   stays_ca v x rest l h = absurd l
 
   -- B processes packets of other units
-  runs_b : (v w : World T C O) (notes : List (Note O)) (ps : List ℕ) → w.log ≡ v.log ++ notes → read ran notes ≡ ps → read arrived notes ≡ []
+  runs_b : {v w : World T C O} (notes : List (Note O)) (ps : List ℕ) → w.log ≡ v.log ++ notes → read ran notes ≡ ps → read arrived notes ≡ []
       → told S laws u notes ≡ [] → Each (λ p. mine S laws u p ≡ false) ps → S.at w.a.table u ≡ S.at v.a.table u → S.at w.b.table u ≡ S.at v.b.table u
       → own (read carries w.sa) ≡ own (read carries v.sa) → Stays v → Stays w
-  runs_b v w notes ps log rans no_came tells others a b sa h =
+  runs_b {v} notes ps log rans no_came tells others a b sa h =
       let came : read arrived (v.log ++ notes) ≡ read arrived v.log = read-append arrived v.log notes ∙ rw no_came (append-nil (read arrived v.log)) in
       let owned : own (read ran (v.log ++ notes)) ≡ own (read ran v.log) =
       ap own (read-append ran v.log notes) ∙ those-append (mine S laws u) (read ran v.log) (read ran notes)
@@ -134,39 +131,29 @@ module _ {U T C R O : Type 0} (S : System U T C R O) (laws : Laws S) (u : U) (no
       → Stays (record v { sb = x ∷ rest }) → Stays (put_b S (record v { sb = rest }) (inst_step S 1 v.b x))
   stays_sb v (Carry p) rest l k h = by (carried S 1 v.b p)
     where
-      less : World T C O
-      less = record v { sb = rest }
-
-      first : World T C O
-      first = record v { sb = Carry p ∷ rest }
-
-      by : {did : Step S (Inst T)} → Carried S 1 v.b p did → Stays (put_b S less did)
+      by : {did : Step S (Inst T)} → Carried S 1 v.b p did → Stays (put_b S (record v { sb = rest }) did)
       by (Runs free) =
           let other = other_cover S laws u not_its p k.plains.0 in
-          runs_b first (put_b S less (processed S 1 v.b p)) (processed S 1 v.b p).notes (p ∷ []) refl refl refl (tells_nothing 1 v.b p other) (other, tt)
-          refl (other_at v.b.table p other) refl h
-      by {did} (Hands_out drops covers) = quietly first (put_b S less did) [] refl refl refl refl refl refl h
-      by {did} (Held covers) = quietly first (put_b S less did) [] refl refl refl refl refl refl h
+          runs_b (processed S 1 v.b p).notes (p ∷ []) refl refl refl (tells_nothing 1 v.b p other) (other, tt) refl (other_at v.b.table p other) refl h
+      by {did} (Hands_out drops covers) = quietly [] refl refl refl refl refl refl h
+      by {did} (Held covers) = quietly [] refl refl refl refl refl refl h
   stays_sb v (Pass p) rest l k h =
       let other = other_cover S laws u not_its p k.passes.0 in
-      runs_b (record v { sb = Pass p ∷ rest }) (put_b S (record v { sb = rest }) (inst_step S 1 v.b (Pass p))) (processed S 1 v.b p).notes (p ∷ []) refl
-      refl refl (tells_nothing 1 v.b p other) (other, tt) refl (other_at v.b.table p other) refl h
-  stays_sb v Stop rest l k h =
-      quietly (record v { sb = Stop ∷ rest }) (put_b S (record v { sb = rest }) (inst_step S 1 v.b Stop)) [] refl refl refl refl refl refl h
+      runs_b (processed S 1 v.b p).notes (p ∷ []) refl refl refl (tells_nothing 1 v.b p other) (other, tt) refl (other_at v.b.table p other) refl h
+  stays_sb v Stop rest l k h = quietly [] refl refl refl refl refl refl h
   stays_sb v x rest l k h = absurd l
 
   stays_cb : (v : World T C O) (x : Msg C) (rest : List (Msg C)) → Label S Cb x → Knows (λ p. S.covers p ≡ true) (view S Nobody (record v { cb = x ∷ rest }))
       → Stays (record v { cb = x ∷ rest }) → Stays (put_b S (record v { cb = rest }) (inst_step S 1 v.b x))
-  stays_cb v (Enable r) rest l k h =
-      quietly (record v { cb = Enable r ∷ rest }) (put_b S (record v { cb = rest }) (inst_step S 1 v.b (Enable r))) [] refl refl refl refl refl refl h
+  stays_cb v (Enable r) rest l k h = quietly [] refl refl refl refl refl refl h
   stays_cb v (Restore c) rest l k h =
       let made = l.1 in
       let kept : S.at (S.restore c v.b.table) u ≡ S.at v.b.table u = rw made (laws.untouched v.b.table l.0 u (no_chunk l.0)) in
-      quietly (record v { cb = Restore c ∷ rest }) (put_b S (record v { cb = rest }) (inst_step S 1 v.b (Restore c))) [] refl refl refl refl kept refl h
+      quietly [] refl refl refl refl kept refl h
   stays_cb v Fence rest l k h =
       let others = each_other S laws u not_its v.b.held k.held in
       let i = record v.b { rule = Free; held = [] } in
-      runs_b (record v { cb = Fence ∷ rest }) (put_b S (record v { cb = rest }) (inst_step S 1 v.b Fence)) (inst_step S 1 v.b Fence).notes v.b.held refl
+      runs_b (inst_step S 1 v.b Fence).notes v.b.held refl
       (ran_fence S laws u 1 v.b) (inst_notes S 1 v.b Fence) (told_other S laws u 1 i v.b.held others) others refl (others_at i v.b.held others) refl h
   stays_cb v x rest l k h = absurd l
 
@@ -219,41 +206,29 @@ module _ {U T C R O : Type 0} (S : System U T C R O) (laws : Laws S) (u : U) (no
       by : (b : Bool) → S.covers p ≡ b → Stays (put_switch S less (goes S (if b then v.sw.target else To_a) v.sw p))
       by true e = stays_goes less p v.sw.target (λ _. other_cover S laws u not_its p e) less_holds
       by false e = stays_goes less p To_a (λ never. cc) less_holds
-  stays_in v In_start rest l ready h =
-      quietly (record v { input = In_start ∷ rest }) (put_switch S (record v { input = rest }) (switch_step S v.sw In_start)) [] refl refl refl refl refl
-      (own_put v.sa [] refl) h
-  stays_in v In_end rest l ready h =
-      quietly (record v { input = In_end ∷ rest }) (put_switch S (record v { input = rest }) (switch_step S v.sw In_end)) [] refl refl refl refl refl
-      (own_put v.sa [] refl) h
+  stays_in v In_start rest l ready h = quietly [] refl refl refl refl refl (own_put v.sa [] refl) h
+  stays_in v In_end rest l ready h = quietly [] refl refl refl refl refl (own_put v.sa [] refl) h
   stays_in v x rest l ready h = absurd l
 
   stays_cs : (v : World T C O) (x : Msg C) (rest : List (Msg C)) → Label S Cs x → Stays (record v { cs = x ∷ rest })
       → Stays (put_switch S (record v { cs = rest }) (switch_step S v.sw x))
-  stays_cs v (Forward p) rest l h =
-      quietly (record v { cs = Forward p ∷ rest }) (put_switch S (record v { cs = rest }) (switch_step S v.sw (Forward p))) [] refl refl refl refl refl
-      (own_put v.sa [] refl) h
-  stays_cs v (Lay true) rest l h =
-      quietly (record v { cs = Lay true ∷ rest }) (put_switch S (record v { cs = rest }) (switch_step S v.sw (Lay true))) (Tables.High ∷ []) refl refl refl
-      refl refl (own_put v.sa [] refl) h
-  stays_cs v (Lay false) rest l h =
-      quietly (record v { cs = Lay false ∷ rest }) (put_switch S (record v { cs = rest }) (switch_step S v.sw (Lay false))) (Tables.Low ∷ []) refl refl refl
-      refl refl (own_put v.sa [] refl) h
-  stays_cs v (Finish to) rest l h =
-      quietly (record v { cs = Finish to ∷ rest }) (put_switch S (record v { cs = rest }) (switch_step S v.sw (Finish to))) [] refl refl refl refl refl
-      (by (to == 0)) h
+  stays_cs v (Forward p) rest l h = quietly [] refl refl refl refl refl (own_put v.sa [] refl) h
+  stays_cs v (Lay true) rest l h = quietly (Tables.High ∷ []) refl refl refl refl refl (own_put v.sa [] refl) h
+  stays_cs v (Lay false) rest l h = quietly (Tables.Low ∷ []) refl refl refl refl refl (own_put v.sa [] refl) h
+  stays_cs v (Finish to) rest l h = quietly [] refl refl refl refl refl (by (to == 0)) h
     where
       by : (b : Bool) → own (read carries (v.sa ++ sent 2 ((if b then 2 else 3, Stop) ∷ []))) ≡ own (read carries v.sa)
       by true = own_put v.sa (Stop ∷ []) refl
       by false = own_put v.sa [] refl
   stays_cs v x rest l h = absurd l
 
-  stays_ctrl : (v w : World T C O) (e : Bool) (did : Step S (Ctrl C)) → CtrlOk S e did → Stays v → w.log ≡ v.log ++ did.notes → w.a ≡ v.a → w.b ≡ v.b
+  stays_ctrl : {v w : World T C O} (e : Bool) (did : Step S (Ctrl C)) → CtrlOk S e did → Stays v → w.log ≡ v.log ++ did.notes → w.a ≡ v.a → w.b ≡ v.b
       → w.sa ≡ v.sa → Stays w
-  stays_ctrl v w e did ok h log a b sa =
-      quietly v w did.notes log ok.unrun ok.quiet (ap (λ i. S.at i.table u) a) (ap (λ i. S.at i.table u) b) (ap (λ l. own (read carries l)) sa) h
+  stays_ctrl e did ok h log a b sa =
+      quietly did.notes log ok.unrun ok.quiet (ap (λ i. S.at i.table u) a) (ap (λ i. S.at i.table u) b) (ap (λ l. own (read carries l)) sa) h
 
   stays_back : (v : World T C O) (x : Msg C) → OnBack S x → Stays v → Stays (put_switch S v (switch_step S v.sw x))
-  stays_back v (Credit p) l h = quietly v (put_switch S v (switch_step S v.sw (Credit p))) [] refl refl refl refl refl (own_put v.sa [] refl) h
+  stays_back v (Credit p) l h = quietly [] refl refl refl refl refl (own_put v.sa [] refl) h
   stays_back v x l h = absurd l
 
   pub stays_keeps : (pl : Place) (v : World T C O) (x : Msg C) (rest : List (Msg C)) → Label S pl x → Ready S pl v x → IsSelected S v.ct.kept
@@ -263,15 +238,9 @@ module _ {U T C R O : Type 0} (S : System U T C R O) (laws : Laws S) (u : U) (no
   stays_keeps Cs v x rest l ready k n h = stays_cs v x rest l h
   stays_keeps Aw v x rest l ready k n h = stays_back (record v { aw = rest }) x l (record { a_is = h.a_is; b_is = h.b_is; order = h.order; right = h.right })
   stays_keeps Bw v x rest l ready k n h = stays_back (record v { bw = rest }) x l (record { a_is = h.a_is; b_is = h.b_is; order = h.order; right = h.right })
-  stays_keeps Sc v x rest l ready k n h =
-      stays_ctrl (with_waits S Sc (x ∷ rest) v) (result S Sc (with_waits S Sc rest v) x) _ (ctrl_step S v.ct 0 x) (ctrl_ok S v.ct 0 x k (gives S Sc x l)) h
-      refl refl refl refl
-  stays_keeps Ac v x rest l ready k n h =
-      stays_ctrl (with_waits S Ac (x ∷ rest) v) (result S Ac (with_waits S Ac rest v) x) _ (ctrl_step S v.ct 2 x) (ctrl_ok S v.ct 2 x k (gives S Ac x l)) h
-      refl refl refl refl
-  stays_keeps Bc v x rest l ready k n h =
-      stays_ctrl (with_waits S Bc (x ∷ rest) v) (result S Bc (with_waits S Bc rest v) x) _ (ctrl_step S v.ct 3 x) (ctrl_ok S v.ct 3 x k (gives S Bc x l)) h
-      refl refl refl refl
+  stays_keeps Sc v x rest l ready k n h = stays_ctrl _ (ctrl_step S v.ct 0 x) (ctrl_ok S v.ct 0 x k (gives S Sc x l)) h refl refl refl refl
+  stays_keeps Ac v x rest l ready k n h = stays_ctrl _ (ctrl_step S v.ct 2 x) (ctrl_ok S v.ct 2 x k (gives S Ac x l)) h refl refl refl refl
+  stays_keeps Bc v x rest l ready k n h = stays_ctrl _ (ctrl_step S v.ct 3 x) (ctrl_ok S v.ct 3 x k (gives S Bc x l)) h refl refl refl refl
   stays_keeps Sa v x rest l ready k n h = stays_sa v x rest l h
   stays_keeps Ca v x rest l ready k n h = stays_ca v x rest l h
   stays_keeps Sb v x rest l ready k n h = stays_sb v x rest l n h
