@@ -1,9 +1,10 @@
 -- Packets that were processed are answered as one instance answers them: what an instance notes, from the records that it has.
-use Rattle.nf_net.proofs.Words.{◌≡◌, ◌≢◌, ℕ, Bool, true, Option, Some, None, List, [], ◌∷◌, ◌++◌, map, refl, sym, ap, ◌∙◌, subst, if◌then◌else◌, filter_map}
+use Rattle.nf_net.proofs.Words.{◌≡◌, ◌≢◌, ℕ, true, Option, Some, None, List, [], ◌∷◌, ◌++◌, map, refl, sym, ap, ◌∙◌, subst, if◌then◌else◌, filter_map}
 use Rattle.nf_net.proofs.Words.{map-append, Site, Output, Semantics, unit_at, kept_after, is_transport, Records, same_unit, after_packet, same_unit-true}
 use Rattle.nf_net.proofs.Words.{FullCell, Msg, Note, Each, each-append, Sys, none_mine, Config, packet_numbered, dones_in, done_where, is_of, outputs, number}
 use Rattle.nf_net.proofs.Words.{ran_in, is_sys, IsGenuine, Unit, split}
 use Rattle.std.specs.FinMap as finite
+use Rattle.std.proofs.lemmas.List.Elements.{filter-append}
 use Rattle.nf_function.specs.Semantics.{output_for}
 use Rattle.net_world.specs.Log.{Done}
 use Rattle.net_world.specs.Fold.{fold}
@@ -13,13 +14,6 @@ use Rattle.proof_outlines.proofs.outline.InstanceOutline.{after_same}
 -- a packet of TCP or UDP has the number
 abbrev pub IsCarried : List Msg → ℕ → Type 0
 IsCarried items p = is_transport (packet_numbered items p).proto ≡ true
-
-done_of-append : (mine : ℕ → Bool) (xs ys : List Done) → done_where mine (xs ++ ys) ≡ done_where mine xs ++ done_where mine ys
-done_of-append mine [] ys = refl
-done_of-append mine (x ∷ xs) ys = split (mine x.number)
-    (λ b. (if b then x ∷ done_where mine (xs ++ ys) else done_where mine (xs ++ ys)) ≡ (if b then x ∷ done_where mine xs else done_where mine xs)
-    ++ done_where mine ys)
-    (λ _. ap (λ v. x ∷ v) (done_of-append mine xs ys)) (λ _. done_of-append mine xs ys)
 
 module _ {R : Type 0} (f : Semantics R) (c : Config) (items : List Msg) where
   -- a unit's packets among what was done, and the answers to them
@@ -35,11 +29,11 @@ module _ {R : Type 0} (f : Semantics R) (c : Config) (items : List Msg) where
     pub same : (u : Unit) → answers u ds ≡ outputs f c items (kept u) (numbers u ds)
 
   pub numbers-append : (u : Unit) (xs ys : List Done) → numbers u (xs ++ ys) ≡ numbers u xs ++ numbers u ys
-  numbers-append u xs ys = ap (map (λ d. d.number)) (done_of-append (is_of f c items u) xs ys)
+  numbers-append u xs ys = ap (map (λ d. d.number)) (filter-append (λ d. is_of f c items u d.number) xs ys)
       ∙ map-append (λ d. d.number) (done_where (is_of f c items u) xs) (done_where (is_of f c items u) ys)
 
   answers-append : (u : Unit) (xs ys : List Done) → answers u (xs ++ ys) ≡ answers u xs ++ answers u ys
-  answers-append u xs ys = ap (map (λ d. d.output)) (done_of-append (is_of f c items u) xs ys)
+  answers-append u xs ys = ap (map (λ d. d.output)) (filter-append (λ d. is_of f c items u d.number) xs ys)
       ∙ map-append (λ d. d.output) (done_where (is_of f c items u) xs) (done_where (is_of f c items u) ys)
 
   outputs-append : (kept : Option R) (ps qs : List ℕ)

@@ -20,7 +20,8 @@ pub use Rattle.nf_net.proofs.answers.MovesUnderWay.{AreUnderWay, moves_under_way
 pub use Rattle.nf_net.proofs.answers.MoveOnce.{once}
 pub use Rattle.nf_net.proofs.answers.InstallSteps.{is_moving}
 pub use Rattle.nf_net.proofs.answers.AnswerSends.{answering}
-pub use Rattle.nf_net.proofs.answers.CreditCounts.{credit, sent_weight-append}
+pub use Rattle.net_world.proofs.SentMessages.{sent_weight-append}
+pub use Rattle.nf_net.proofs.answers.CreditCounts.{credit}
 pub use Rattle.nf_net.proofs.answers.ShareTells.{ShareStep, handed_share, is_set_up, queued_share}
 pub use Rattle.nf_net.proofs.answers.InstallCounts.{passed}
 pub use Rattle.nf_net.proofs.answers.BusyNodes.{instance_says, switch_hands}

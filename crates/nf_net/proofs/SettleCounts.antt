@@ -1,23 +1,22 @@
 -- How many commands of an input are answered, by the log; and two ends of one list, by their lengths.
 use Rattle.nf_net.proofs.Words.{◌≡◌, ℕ, suc, ◌+◌, ◌<◌, ◌≤◌, true, false, Some, List, [], ◌∷◌, ◌++◌, map, length, length-append, refl, sym, ap, ◌∙◌, arith}
 use Rattle.nf_net.proofs.Words.{if◌then◌else◌, ◌||◌, ◌==◌, find, option_map, nat_tests, Decides-eqb, or-true, or_left, Answer, Command, Order, Msg, Note, Each}
-use Rattle.nf_net.proofs.Words.{has_answered, commands, IsRising, has_answered-append, split}
-use Rattle.net_world.specs.Input.{packets}
+use Rattle.nf_net.proofs.Words.{has_answered, commands, IsRising, has_answered-append, split, weigh, weigh-append}
+use Rattle.std.proofs.lemmas.List.Elements.{filter_map-append}
+use Rattle.net_world.specs.Input.{command_in, packet_in, packets}
 use Rattle.nf_net.proofs.answers.BusyController.{told_in}
 use Rattle.nf_net.proofs.RunWords.{answered_same, flag, flag_most, flag_full}
 use Rattle.nf_net.proofs.answers.LinePicks.{picked}
 
 -- how many are answered
 abbrev pub answered_in : List Command → List Note → ℕ
-answered_in [] log = 0
-answered_in (c ∷ cs) log = flag (has_answered c.op log) + answered_in cs log
+answered_in cs log = weigh (λ c. flag (has_answered c.op log)) cs
 
 abbrev pub AllAnswered : List Command → List Note → Type 0
 AllAnswered cs log = Each (λ c. has_answered c.op log ≡ true) cs
 
 pub answered_in-append : (xs ys : List Command) (log : List Note) → answered_in (xs ++ ys) log ≡ answered_in xs log + answered_in ys log
-answered_in-append [] ys log = omega arith
-answered_in-append (c ∷ xs) ys log = let rest = answered_in-append xs ys log in omega (arith, rest)
+answered_in-append xs ys log = weigh-append (λ c. flag (has_answered c.op log)) xs ys
 
 -- no more than there are, and where as many, all
 pub answered_most : (cs : List Command) (log : List Note) → answered_in cs log ≤ length cs
@@ -101,14 +100,10 @@ low_commands P (Msg.Asked c ∷ ms) h = low_commands P ms h.1
 low_commands P (m ∷ ms) h = low_commands P ms h
 
 pub commands-append : (xs ys : List Msg) → commands (xs ++ ys) ≡ commands xs ++ commands ys
-commands-append [] ys = refl
-commands-append (Msg.InCommand c ∷ xs) ys = ap (λ v. c ∷ v) (commands-append xs ys)
-commands-append (m ∷ xs) ys = commands-append xs ys
+commands-append xs ys = filter_map-append command_in xs ys
 
 pub packets-append : (xs ys : List Msg) → packets (xs ++ ys) ≡ packets xs ++ packets ys
-packets-append [] ys = refl
-packets-append (Msg.InPacket p ∷ xs) ys = ap (λ v. p ∷ v) (packets-append xs ys)
-packets-append (m ∷ xs) ys = packets-append xs ys
+packets-append xs ys = filter_map-append packet_in xs ys
 
 -- Two ends of one list.
 longer : {X : Type 0} (x : X) (xs ys : List X) → length (x ∷ xs ++ ys) ≡ length ys → ⊥

@@ -7,7 +7,7 @@ use Rattle.std.specs.Prelude.{length}
 use Rattle.event_filter.specs.declared.mark.Mark.TheVariants.{Shared}
 use Rattle.copy_share.specs.Share.{next_phase, row, member_of}
 use Rattle.ctrl_node.specs.Controller.{Step}
-use Rattle.nf_net.proofs.answers.CreditCounts.{sent_weight-append}
+use Rattle.net_world.proofs.SentMessages.{sent_weight-append}
 use Rattle.nf_net.proofs.answers.MoveOnce.{once, NoneOnce, no_more, no_one, at_most, few_counts}
 
 -- how often a share has asked in this phase

@@ -6,6 +6,7 @@ use Rattle.nf_net.proofs.Words.{Network, Ran, done_u, ran_of, packets_done, live
 use Rattle.nf_net.proofs.Words.{dones_in, IsFront, processed_of, live_in, live_at, standby_in, standby_at, done-append, is_sys, Given, S, A, by_node, came_by}
 use Rattle.nf_net.proofs.Words.{Scene, AreShown, IsInstanceAt, Joined, went_same, given, Unit, Instance, split}
 use Rattle.std.specs.FinMap as finite
+use Rattle.std.proofs.lemmas.List.Sums.{fold-append}
 use Rattle.proof_machines.proofs.share.Share as share
 use Rattle.proof_machines.proofs.share.Stages as stages
 use Rattle.proof_machines.proofs.share.Stages.{packets}
@@ -55,10 +56,6 @@ module _ {R : Type 0} (f : Semantics R) (c : Config) (items : List Msg) where
       subst (λ all. IsOfFront all kept) (sym (went_more u log notes)) (of_front_more (processed_of f c items u log) (processed_of f c items u notes) kept h)
 
   -- what a record was folded to stays one as more is folded
-  fold-append : (kept : Option R) (xs ys : List ℕ) → fold f c items kept (xs ++ ys) ≡ fold f c items (fold f c items kept xs) ys
-  fold-append kept [] ys = refl
-  fold-append kept (x ∷ xs) ys = fold-append (kept_after f c.site kept (packet_numbered items x)) xs ys
-
   fold_some : (r : R) (ps : List ℕ) → (s : R) × (fold f c items (Some r) ps ≡ Some s)
   fold_some r [] = (r, refl)
   fold_some r (p ∷ ps) =
@@ -70,7 +67,8 @@ module _ {R : Type 0} (f : Semantics R) (c : Config) (items : List Msg) where
   pub still_some : (before since : List ℕ) (r : R) → IsFront before since → kept_of before ≡ Some r → (s : R) × (kept_of since ≡ Some s)
   still_some before since r h e =
       let more = fold_some r h.rest in
-      (more.0, ap kept_of (sym h.whole) ∙ fold-append None before h.rest ∙ ap (λ k. fold f c items k h.rest) e ∙ more.1)
+      (more.0, ap kept_of (sym h.whole) ∙ fold-append (λ k p. kept_after f c.site k (packet_numbered items p)) None before h.rest
+      ∙ ap (λ k. fold f c items k h.rest) e ∙ more.1)
 
 module _ {R : Type 0} (f : Semantics R) (c : Config) (items : List Msg) (is : IsInput f.kind c items) where
   abbrev g : Given

@@ -15,7 +15,7 @@ use Rattle.nf_net.proofs.answers.ControllerCases.{OpensBy, Opens_move, Opens_cop
 use Rattle.nf_net.proofs.answers.AnswerSends.{answering, NoAnswer, none_weighs, row_quiet}
 use Rattle.proof_outlines.proofs.outline.CopyTurns.{ends}
 use Rattle.proof_outlines.proofs.joined.KnownOperations.{AreKnown}
-use Rattle.nf_net.proofs.answers.CreditCounts.{sent_weight-append}
+use Rattle.net_world.proofs.SentMessages.{sent_weight-append}
 use Rattle.nf_net.proofs.answers.InstallCounts.{passed, row_adds}
 use Rattle.nf_net.proofs.answers.InstallRuns.{not_done}
 use Rattle.nf_net.proofs.answers.InstallSteps.{over_is}

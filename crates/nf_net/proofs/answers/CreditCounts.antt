@@ -5,16 +5,13 @@ use Rattle.nf_net.proofs.Words.{share_message, tell_step, tells_and_notes, and_t
 use Rattle.nf_net.proofs.Words.{arrivals_in, dones_in, arrived-append, done-append, instance_fits, Given, Label, Unit}
 use Rattle.instance_worker.specs.declared.instance.Instance.{Instance}
 use Rattle.instance_worker.specs.Instance.{Step, still, process_step}
+use Rattle.net_world.proofs.SentMessages.{sent_weight-append}
 use Rattle.nf_net.proofs.WeightlessMessages.{sends_nothing}
 
 -- a cell that goes home counts, and nothing else
 abbrev pub credit : Msg → ℕ
 credit (Msg.Credit cell) = 1
 credit m = 0
-
-pub sent_weight-append : {M : Type 0} (w : M → ℕ) (n k : ℕ) (xs ys : List (ℕ × M)) → sent_weight w n k (xs ++ ys) ≡ sent_weight w n k xs + sent_weight w n k ys
-sent_weight-append w n k [] ys = omega arith
-sent_weight-append w n k (x ∷ xs) ys = let rest = sent_weight-append w n k xs ys in omega (arith, rest)
 
 -- the switch and the controller send no cell home
 module _ {R : Type 0} (f : Semantics R) (g : Given) where

@@ -8,7 +8,7 @@ use Rattle.move_op.specs.Table.{Said}
 use Rattle.move_op.specs.Move.{row}
 use Rattle.nf_net.proofs.MoveWays.{Goes, Pushed, Asks, Way, Is_removed, Is_taken, Is_refused, Is_undone, move_fits, OfWord, each_forward, each_said}
 use Rattle.nf_net.proofs.WeightlessMessages.{weighs_none}
-use Rattle.nf_net.proofs.answers.CreditCounts.{sent_weight-append}
+use Rattle.net_world.proofs.SentMessages.{sent_weight-append}
 use Rattle.proof_outlines.proofs.outline.MoveOutline.{IsRefusing, is_done}
 
 -- what a change of the switch's rules for the command counts, or, of no command, the finish

@@ -1,7 +1,8 @@
 -- What the controller's step keeps of the changes of the switch's rules: it has sent one for each open move that passes packets on, for each
 -- that was done, and for each open share.
 use Rattle.nf_net.proofs.Words.{◌≡◌, ℕ, ◌+◌, Bool, true, false, Option, Some, None, List, [], ◌∷◌, ◌++◌, refl, sym, ap, ◌∙◌, arith, if◌then◌else◌, option_map}
-use Rattle.nf_net.proofs.Words.{option_or, Answer, Unknown, Overlap, Order, Msg, Phase, answer_of, Operation, Move, Share, answered, option_map_or}
+use Rattle.nf_net.proofs.Words.{option_or, Answer, Unknown, Overlap, Order, Msg, Phase, answer_of, Operation, Move, Share, answered, option_map_or, weigh}
+use Rattle.nf_net.proofs.Words.{weigh-append}
 use Rattle.move_op.specs.Phases as phase
 use Rattle.nf_net.proofs.answers.InstallCounts.{sent_of, done_in, passed, NoInstall, no_more, no_one, no_both}
 use Rattle.nf_net.proofs.answers.ShareTells.{is_of_share, AreOfShare}
@@ -13,12 +14,10 @@ is_moving o = false
 
 -- how many changes were sent for commands that are answered so, if they move units
 abbrev pub dones : Bool → List Answer → ℕ
-dones moving [] = 0
-dones moving (a ∷ answers) = (if moving then done_in a else 0) + dones moving answers
+dones moving answers = weigh (λ a. if moving then done_in a else 0) answers
 
 pub dones-append : (moving : Bool) (xs ys : List Answer) → dones moving (xs ++ ys) ≡ dones moving xs + dones moving ys
-dones-append moving [] ys = omega arith
-dones-append moving (x ∷ xs) ys = let rest = dones-append moving xs ys in omega (arith, rest)
+dones-append moving xs ys = weigh-append (λ a. if moving then done_in a else 0) xs ys
 
 pub dones-none : (moving : Bool) (a : Answer) → done_in a ≡ 0 → dones moving (a ∷ []) ≡ 0
 dones-none true a none = omega (arith, none)

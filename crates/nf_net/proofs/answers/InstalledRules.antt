@@ -14,7 +14,7 @@ use Rattle.ctrl_node.specs.Controller.{Step, still, opening_step}
 use Rattle.proof_outlines.proofs.outline.CopyTurns.{ends}
 use Rattle.proof_outlines.proofs.joined.KnownOperations.{AreKnown}
 use Rattle.nf_net.proofs.answers.ControllerCases.{OpensBy, Opens_move, Opens_copy, Opens_share, by_command, by_finish, by_diverted, by_handed}
-use Rattle.nf_net.proofs.answers.CreditCounts.{sent_weight-append}
+use Rattle.net_world.proofs.SentMessages.{sent_weight-append}
 use Rattle.nf_net.proofs.answers.InstallCounts.{sent_of, install, finish, done_in, passed, Adds, NoInstall, no_one, no_both, row_adds}
 use Rattle.nf_net.proofs.answers.ShareTells.{ShareStep}
 use Rattle.nf_net.proofs.answers.InstallSteps.{is_moving, dones, dones-none, open_in, over_is, shares_none, answered_none, refused_none}

@@ -2,19 +2,15 @@
 -- as a step goes on.
 use Rattle.nf_net.proofs.Words.{◌≡◌, ℕ, suc, ◌<◌, Bool, true, false, List, [], ◌∷◌, ◌++◌, drop, append_assoc, append-nil, refl, sym, ap, ◌∙◌, arith}
 use Rattle.nf_net.proofs.Words.{if◌then◌else◌, ◌&&◌, ◌==◌, not, nat_lt, nat_tests, Decides-ltb, and-false, and-true, Msg, Note, Network, Stepped, queue_at}
-use Rattle.nf_net.proofs.Words.{world_next, reaches, core_sent, at, put_on_link, less_first, Takes, taken_outcome}
+use Rattle.nf_net.proofs.Words.{world_next, reaches, core_sent, at, put_on_link, less_first, Takes, taken_outcome, flat_map}
+use Rattle.std.proofs.lemmas.List.Concat.{flat_map-append}
 
 put_none : {M : Type 0} (n k s r : ℕ) (sends : List (ℕ × M)) → (s == k) ≡ false → put_on_link n k s r sends ≡ []
 put_none n k s r sends off = ap (λ b. if b && reaches n k r then core_sent r sends else []) off
 
 module _ {X : Type 0} (pick : Msg → List X) where
   abbrev pub picked : List Msg → List X
-  picked [] = []
-  picked (m ∷ ms) = pick m ++ picked ms
-
-  pub picked-append : (xs ys : List Msg) → picked (xs ++ ys) ≡ picked xs ++ picked ys
-  picked-append [] ys = refl
-  picked-append (x ∷ xs) ys = ap (λ v. pick x ++ v) (picked-append xs ys) ∙ sym (append_assoc (pick x) (picked xs) (picked ys))
+  picked ms = flat_map pick ms
 
   -- what is picked of the link and the input
   abbrev pub on_way : {A : Type 0} → Network A Msg Note → List X
@@ -77,7 +73,7 @@ module _ {X : Type 0} (pick : Msg → List X) {A : Type 0} (step : A → ℕ →
       rw there refl) in
       let link : picked pick (queue_at after (at 1 0)) ≡ picked pick (queue_at w (at 1 0)) ++ pick m =
       ap (picked pick) (link_is 0 takes ∙ ap (λ x. less_first x (queue_at w (at 1 0)) ++ put_on_link n 0 0 1 (sends 0 takes)) (and-false (0 == p)))
-      ∙ picked-append pick (queue_at w (at 1 0)) (put_on_link n 0 0 1 (sends 0 takes))
+      ∙ flat_map-append pick (queue_at w (at 1 0)) (put_on_link n 0 0 1 (sends 0 takes))
       ∙ ap (λ xs. picked pick (queue_at w (at 1 0)) ++ xs) (ap (picked pick) put ∙ hands) in
       let input : picked pick (queue_at w (at 0 0)) ≡ pick m ++ picked pick (queue_at after (at 0 0)) =
       input_less 0 takes ∙ ap (λ xs. xs ++ picked pick (queue_at after (at 0 0))) (ap (λ x. if x then pick m else []) (and-true (0 == p)) ∙ sym from) in

@@ -4,7 +4,7 @@ use Rattle.nf_net.proofs.Words.{◌≡◌, ◌⊎◌, inl, inr, ℕ, zero, suc, 
 use Rattle.nf_net.proofs.Words.{refl, sym, ap, ◌∙◌, subst, arith, if◌then◌else◌, ◌&&◌, ◌||◌, ◌==◌, not, nat_lt, nat_le, nat_tests, Decides-eqb, length-set}
 use Rattle.nf_net.proofs.Words.{Packet, Semantics, one_more, Target, rules_redirected, Answer, Msg, instance_node, turn_of, lasts, are_quiet, ControllerState}
 use Rattle.nf_net.proofs.Words.{may_finish, controller_step, SwitchState, switch_step, stop_messages, reaches, sent_for, put_on_link, weigh, sent_weight}
-use Rattle.nf_net.proofs.Words.{row_fits, Given, Label, Mark, Note, split}
+use Rattle.nf_net.proofs.Words.{row_fits, Given, Label, Mark, Note, split, weigh-append}
 use Rattle.std.proofs.Common.{◌-◌, set}
 use Rattle.std.specs.FinMap as finite
 use Rattle.std.proofs.lemmas.List.{get_or-set_same}
@@ -12,7 +12,7 @@ use Rattle.ctrl_node.specs.Operations.{Turn}
 use Rattle.ctrl_node.specs.Controller as ctrl
 use Rattle.ctrl_node.specs.Controller.{Step}
 use Rattle.switch_node.specs.Switch as switches
-use Rattle.nf_net.proofs.answers.CreditCounts.{sent_weight-append}
+use Rattle.net_world.proofs.SentMessages.{sent_for-append, sent_weight-append}
 use Rattle.nf_net.proofs.answers.InstallCounts.{finish}
 
 -- the input's end, on its way; a stop; its answer
@@ -203,16 +203,14 @@ module _ (n : ℕ) (s : SwitchState) where
       [ true ↦ refl | false ↦ refl ]
 
   -- a stop for each instance
-  sent-append : {M : Type 0} (r : ℕ) (w : M → ℕ) (xs ys : List (ℕ × M)) → weigh w (sent_for r (xs ++ ys)) ≡ weigh w (sent_for r xs) + weigh w (sent_for r ys)
-  sent-append r w [] ys = omega arith
-  sent-append r w (x ∷ xs) ys = split (x.0 == r)
-      (λ b. weigh w ((if b then x.1 ∷ [] else []) ++ sent_for r (xs ++ ys)) ≡ weigh w ((if b then x.1 ∷ [] else []) ++ sent_for r xs) + weigh w (sent_for r ys))
-      (λ _. (let rest = sent-append r w xs ys in omega (arith, rest))) (λ _. sent-append r w xs ys)
-
   stops_sent : (count i : ℕ) → i < count → 1 ≤ weigh stop (sent_for (instance_node i) (stop_messages count))
   stops_sent zero i less = absurd (omega (arith, less))
   stops_sent (suc count) i less =
-      let both = sent-append (instance_node i) stop (stop_messages count) ((instance_node count, Msg.Stop) ∷ []) in
+      let last = (instance_node count, Msg.Stop) ∷ [] in
+      let both =
+      ap (weigh stop) (sent_for-append (instance_node i) (stop_messages count) last)
+      ∙ weigh-append stop (sent_for (instance_node i) (stop_messages count)) (sent_for (instance_node i) last)
+      in
       split (i == count) (λ _. 1 ≤ weigh stop (sent_for (instance_node i) (stop_messages (suc count))))
       (λ on.
       let here : (instance_node count == instance_node i) ≡ true = grind (arith, nat_tests, on) in

@@ -57,13 +57,11 @@ at_links f n w = upto (λ s. upto (λ r. weigh (f s r) (queue_at w (at r s))) n)
 
 -- what node k sends, as far as it arrives
 abbrev pub sends_weigh : {M : Type 0} → (ℕ → ℕ → M → ℕ) → ℕ → ℕ → List (ℕ × M) → ℕ
-sends_weigh f n k [] = 0
-sends_weigh f n k (x ∷ xs) = (if reaches n k x.0 then f k x.0 x.1 else 0) + sends_weigh f n k xs
+sends_weigh f n k sends = weigh (λ x. if reaches n k x.0 then f k x.0 x.1 else 0) sends
 
 pub sends_weigh-append : {M : Type 0} (f : ℕ → ℕ → M → ℕ) (n k : ℕ) (xs ys : List (ℕ × M))
     → sends_weigh f n k (xs ++ ys) ≡ sends_weigh f n k xs + sends_weigh f n k ys
-sends_weigh-append f n k [] ys = omega arith
-sends_weigh-append f n k (x ∷ xs) ys = let rest = sends_weigh-append f n k xs ys in omega (arith, rest)
+sends_weigh-append {M = M} f n k xs ys = weigh-append (λ (x : ℕ × M). if reaches n k x.0 then f k x.0 x.1 else 0) xs ys
 
 pub at_links_same : {A M N : Type 0} (f g : ℕ → ℕ → M → ℕ) (n : ℕ) (w : Network A M N) → ((s r : ℕ) (m : M) → f s r m ≡ g s r m)
     → at_links f n w ≡ at_links g n w

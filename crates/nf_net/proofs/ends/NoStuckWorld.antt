@@ -1,18 +1,18 @@
 -- A world of a run in which no choice is enabled is complete, where the input has an end: each phase that waits has a message on a link, and what the switch
 -- waits for is under way.
-use Rattle.nf_net.proofs.Words.{◌≡◌, inl, inr, ℕ, ◌+◌, ◌≤◌, true, false, Some, List, [], length, refl, sym, ap, ◌∙◌, subst, arith, ◌&&◌, ◌==◌, slice_get}
-use Rattle.nf_net.proofs.Words.{Global, Decides-eqb, Decides-ltb, slice_get-get_or, FunctionLaws, Semantics, Msg, Note, MOST_WAITING, SwitchState, takes_in}
+use Rattle.nf_net.proofs.Words.{◌≡◌, inl, inr, ℕ, ◌+◌, ◌≤◌, true, false, List, [], length, refl, sym, ◌∙◌, arith, ◌&&◌, ◌==◌}
+use Rattle.nf_net.proofs.Words.{Global, Decides-eqb, Decides-ltb, FunctionLaws, Semantics, Msg, Note, MOST_WAITING, SwitchState, takes_in}
 use Rattle.nf_net.proofs.Words.{Choice, MOST_CHOICES, Network, IsWorld, IsRun, is_done, run, queue_at, StopsShort, at, Config, Node, Switch, IsInput, node_step}
 use Rattle.nf_net.proofs.Words.{node_ready, node_ended, started_with, Joined, given, IsShort, run_beside}
 use Rattle.actor_net.specs.Schedules.{enabled_choices}
-use Rattle.actor_net.proofs.DisabledChoices.{IsUnready, stuck_links, stuck_input}
+use Rattle.actor_net.proofs.DisabledChoices.{stuck_links}
 use Rattle.nf_net.proofs.RunWords.{runs_joined, run_busy, after_world}
 use Rattle.nf_net.proofs.answers.ToldCommands.{run_told}
 use Rattle.nf_net.proofs.SettleKeeps.{run_settles}
 use Rattle.nf_net.proofs.WindowRuns.{in_window}
 use Rattle.net_world.specs.Length.{ends}
 use Rattle.nf_net.proofs.length.ShortRuns.{short_runs}
-use Rattle.net_world.proofs.SilentLinks.{all_done}
+use Rattle.net_world.proofs.SilentLinks.{all_done, empty_input}
 use Rattle.nf_net.proofs.ends.TokenRuns.{run_enough}
 use Rattle.nf_net.proofs.ends.EndingRuns.{run_ending}
 use Rattle.nf_net.proofs.ends.AllEnded.{nodes_ended}
@@ -55,26 +55,9 @@ module _ (F : Type 0) {R : Type 0} (f : Semantics R) (laws : FunctionLaws f) (al
 
     -- so nothing is in the input
     input_empty : w.input ≡ []
-    input_empty = elim (stuck_input node_ready w reached.0 none) as (λ _. w.input ≡ []) [
-      | inl empty ↦ empty
-      | inr unready ↦ absurd (never unready)
-    ]
-      where
-        never : IsUnready node_ready w (at 0 0) → ⊥
-        never unready =
-            let count = reached.1 in
-            let there : slice_get w.nodes 0 ≡ Some unready.node = unready.node_is in
-            let found : slice_get w.nodes 0 ≡ Some (Switch joined.nodes.switch) = slice_get-get_or w.nodes 0 (Switch joined.nodes.switch)
-            (omega (arith, count)) ∙ ap Some (joined.nodes_are 0 (omega arith) (Switch joined.nodes.switch)) in
-            let same : Some unready.node ≡ Some (Switch joined.nodes.switch) = sym there ∙ found in
-            let is_switch : unready.node ≡ Switch joined.nodes.switch = cc in
-            let window = is.is_config.window.0 in
-            let cells = rests.1 in
-            let takes : takes_in joined.nodes.switch unready.message ≡ true = takes_all joined.nodes.switch unready.message rests.0
-            (omega (arith, cells, window)) nothing_waits in
-            let refused : takes_in joined.nodes.switch unready.message ≡ false = subst (λ x. node_ready x unready.message ≡ false) is_switch unready.refused in
-            let both : true ≡ false = sym takes ∙ refused in
-            cc
+    input_empty =
+        empty_input node_ready w reached.0 none (Switch joined.nodes.switch) (joined.nodes_are 0 (omega arith) (Switch joined.nodes.switch))
+        (λ m. takes_all joined.nodes.switch m rests.0 (omega (arith, rests.1, is.is_config.window.0)) nothing_waits)
 
     pub no_stuck_world : is_done node_ended w ≡ true
     no_stuck_world = all_done w reached.0 silent node_ended input_empty
