@@ -8,6 +8,7 @@ use Rattle.nf_net.proofs.Words.{ControllerState, on_diverted, takes_turn, hand_s
 use Rattle.nf_net.proofs.Words.{sends_to_instance, target_of, has_room, is_there, row_fits, NotShared, Given, Label, Mark, split}
 use Rattle.std.proofs.Common.{◌-◌}
 use Rattle.std.specs.FinMap as finite
+use Rattle.std.proofs.lemmas.List.Folds.{list_all-append}
 use Rattle.ctrl_node.specs.Controller as controller
 use Rattle.ctrl_node.specs.Controller.{Step, still, numbered, on_event}
 use Rattle.switch_node.specs.Switch as switch
@@ -28,9 +29,7 @@ sign_in m = []
 
 -- no command is there, and none behind an end
 abbrev pub no_command : List Bool → Bool
-no_command [] = true
-no_command (true ∷ xs) = false
-no_command (false ∷ xs) = no_command xs
+no_command xs = list_all not xs
 
 abbrev pub in_order : List Bool → Bool
 in_order [] = true
@@ -45,12 +44,7 @@ none_ordered (false ∷ xs) h = h
 pub ordered_behind : (xs ys : List Bool) → in_order (xs ++ ys) ≡ true → in_order ys ≡ true
 ordered_behind [] ys h = h
 ordered_behind (true ∷ xs) ys h = ordered_behind xs ys h
-ordered_behind (false ∷ xs) ys h = none_ordered ys (behind xs ys h)
-  where
-    behind : (us bs : List Bool) → no_command (us ++ bs) ≡ true → no_command bs ≡ true
-    behind [] bs e = e
-    behind (true ∷ us) bs e = cc
-    behind (false ∷ us) bs e = behind us bs e
+ordered_behind (false ∷ xs) ys h = none_ordered ys (and_parts (no_command xs) (no_command ys) (sym (list_all-append not xs ys) ∙ h)).1
 
 -- Nothing but shares that are set up is open where all is quiet.
 abbrev pub IsSettled : Option Operation → Type 0

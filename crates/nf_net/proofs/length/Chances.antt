@@ -1,6 +1,7 @@
 -- What can still become pieces of a move, and packets that are still to arrive: what messages and nodes weigh by these two. `a` is the weight of a
 -- packet of the input, `k` that of a move whose source hasn't been asked for its chunks.
 use Rattle.nf_net.proofs.Words.{◌≡◌, ℕ, ◌+◌, List, [], ◌∷◌, ◌++◌, length, arith, Msg, Note, Phase, Operation, Move, ControllerState, Stepped, weigh}
+use Rattle.nf_net.proofs.Words.{weigh-append}
 use Rattle.nf_net.proofs.Words.{arrivals_in, pieces_among}
 use Rattle.move_op.specs.Phases.{Freezing}
 use Rattle.net_world.specs.Length.{one_piece}
@@ -22,12 +23,10 @@ module _ (a k : ℕ) where
 
   -- and with them
   abbrev pub spent : List (ℕ × Msg) → ℕ
-  spent [] = 0
-  spent (x ∷ xs) = one_piece x.1 + chance x.1 + spent xs
+  spent sends = sent_cost (λ m. one_piece m + chance m) sends
 
   pub spent-append : (xs ys : List (ℕ × Msg)) → spent (xs ++ ys) ≡ spent xs + spent ys
-  spent-append [] ys = omega arith
-  spent-append (x ∷ xs) ys = let rest = spent-append xs ys in omega (arith, rest)
+  spent-append xs ys = weigh-append (λ x. one_piece x.1 + chance x.1) xs ys
 
   pub spent_parts : (xs : List (ℕ × Msg)) → spent xs ≡ pieces_among xs + chances xs
   spent_parts [] = omega arith

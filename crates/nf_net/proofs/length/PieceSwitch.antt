@@ -1,19 +1,13 @@
 -- What the switch sends and notes as it takes a message weighs no more than the message: a command goes on, and a packet of the input arrives once.
-use Rattle.nf_net.proofs.Words.{◌≡◌, ℕ, zero, suc, ◌≤◌, [], ◌∷◌, arith, step_fits, Msg, instance_node, SwitchState, switch_step}
-use Rattle.switch_node.specs.Switch as switch
-use Rattle.switch_node.specs.Switch.{Step, still}
-use Rattle.nf_net.proofs.length.Chances.{chance, spent, spent-append, uses}
+use Rattle.nf_net.proofs.Words.{ℕ, ◌+◌, ◌≤◌, arith, step_fits, Msg, SwitchState, switch_step}
+use Rattle.switch_node.specs.Switch.{Step}
+use Rattle.net_world.specs.Length.{one_piece}
+use Rattle.nf_net.proofs.length.SentWeights.{stops_weigh}
+use Rattle.nf_net.proofs.length.Chances.{chance, uses}
 
 module _ (a k : ℕ) (s : SwitchState) where
   abbrev pub UsesNoMore : Msg → Step → Type 0
   UsesNoMore m step = uses a k step ≤ chance a k m
-
-  stops_none : (n : ℕ) → spent a k (switch.stop_messages n) ≡ 0
-  stops_none zero = omega arith
-  stops_none (suc n) =
-      let rest = stops_none n in
-      let both = spent-append a k (switch.stop_messages n) ((instance_node n, Msg.Stop) ∷ []) in
-      omega (arith, rest, both)
 
   -- each step of the switch
   pub switch_uses : (m : Msg) → UsesNoMore m (switch_step s m)
@@ -27,6 +21,6 @@ module _ (a k : ℕ) (s : SwitchState) where
     install = λ op filter from to. omega arith;
     fence = λ op to. omega arith;
     answered = λ op. omega arith;
-    finish = let all = stops_none s.instances in omega (arith, all);
+    finish = omega (arith, stops_weigh (λ m. one_piece m + chance a k m) s.instances);
     credit = λ cell. omega arith;
   })

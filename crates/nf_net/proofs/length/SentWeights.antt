@@ -1,7 +1,9 @@
 -- What is sent weighs together, and what the nodes and the input of a network weigh at its start.
 use Rattle.nf_net.proofs.Words.{◌≡◌, ℕ, zero, suc, ◌+◌, ◌≤◌, Bool, true, false, List, [], ◌∷◌, length, arith, if◌then◌else◌, Global, Msg, Note, reaches}
+use Rattle.nf_net.proofs.Words.{◌*◌, instance_node, stop_messages}
 use Rattle.nf_net.proofs.Words.{opening_weight, weigh, weigh-append, total, sent_weight, Config, Node, Switch, Controller, first_switch, first_instance}
 use Rattle.nf_net.proofs.Words.{first_instances, first_nodes, started_with, Instance}
+use Rattle.std.proofs.Common.{suc-mul}
 use Rattle.ctrl_node.specs.Controller as controller
 
 module _ (f : Msg → ℕ) where
@@ -20,6 +22,13 @@ module _ (f : Msg → ℕ) where
       let one = arrives (reaches n i x.0) (f x.1) in
       let rest = few_sent n i xs in
       omega (arith, one, rest)
+
+  -- a stop for each instance
+  pub stops_weigh : (n : ℕ) → sent_cost (stop_messages n) ≡ n * f Msg.Stop
+  stops_weigh zero = omega arith
+  stops_weigh (suc n) =
+      let both = weigh-append (λ x. f x.1) (stop_messages n) ((instance_node n, Msg.Stop) ∷ []) in
+      omega (arith, stops_weigh n, both, suc-mul n (f Msg.Stop))
 
 -- a node's weight, which is nothing at an instance that has done nothing
 module _ {F R : Type 0} (f : Msg → ℕ) (h : Node F R → ℕ) (alloc : Global) (c : Config) (fresh : (i : ℕ) → h (Instance (first_instance alloc c i)) ≡ 0) where
