@@ -1,13 +1,16 @@
 -- Each move from each stage in which a share serves a packet, up to the Sync that it gives.
 use Rattle.std.proofs.Common.{◌≡◌, ℕ, Bool, true, false, cond, ◌==◌, None, List, [], ◌∷◌, ◌++◌, length, inl, inr, refl, sym, ap, append_assoc, append-nil}
-use Rattle.proof_machines.proofs.share.Share.{Ran, Item.Shared, Item.Chunk, UnitShare, Phase.Syncing, put, sync_to, ShareMachineStep, ShareMachineStep.Arrive}
+use Rattle.proof_machines.proofs.share.Share.{Ran, Item.Shared, Item.Chunk, UnitShare, put, serves, ShareMachineStep, ShareMachineStep.Arrive}
 use Rattle.proof_machines.proofs.share.Share.{ShareMachineStep.Take_cs, ShareMachineStep.Take_sc, ShareMachineStep.Take_sw, ShareMachineStep.Take_back, has}
-use Rattle.proof_machines.proofs.share.Share.{without_number, if_mine, at_node, runs, after, chunk_of, over, moved, from_sw, from_back}
+use Rattle.proof_machines.proofs.share.Share.{without_number, words, if_mine, at_node, runs, after, chunk_of, over, moved, from_sw, from_back}
+use Rattle.copy_share.specs.declared.share_phase.SharePhase.TheVariants.{Idle, Syncing}
+use Rattle.copy_share.specs.ShareTable.{Sync}
+use Rattle.std.specs.Prelude.{if◌then◌else◌}
 use Rattle.proof_machines.proofs.share.Stages.{Turn, is_pending, Stage.Spreads, Stage.Resting, Stage.Forwards, Stage.Carries, Stage.Chunk_comes, shape, served}
 use Rattle.proof_machines.proofs.share.Stages.{IsFront, IsShare, Behind, brings, Leads}
 use Rattle.proof_machines.proofs.share.Lists.{runs-append, served-append, turn_of, turn_self, served_at}
 use Rattle.proof_machines.proofs.share.Setting.{links, orders, at_only, front_same, alike_in, same_but_sc, same_view, leads, leads_same, stays}
-use Rattle.proof_machines.proofs.share.FencedSetting.{sync_goes, none_comes, turns, some_left, just_sent, at_least_one}
+use Rattle.proof_machines.proofs.share.FencedSetting.{sync_goes, none_comes, turns, just_sent, at_least_one}
 use Rattle.proof_machines.proofs.Tests.{split}
 
 module _ {R : Type 0} (f : UnitShare R) where
@@ -82,8 +85,8 @@ module _ {R : Type 0} (f : UnitShare R) where
       let m = f.member_of p in
       let o = without_number f.members m in
       let c = chunk_of f p (after f (d ++ served f (e ++ if_mine f p))) in
-      at_least_one f (Chunk_comes d e p q v) (record (shape f (Chunk_comes d e p q v)) { back = put (shape f (Chunk_comes d e p q v)).back m [] }) Syncing
-      (length o) q (sync_to o c) (some_left f is m)
+      at_least_one f is m (Chunk_comes d e p q v) (record (shape f (Chunk_comes d e p q v)) { back = put (shape f (Chunk_comes d e p q v)).back m [] })
+      (λ b. serves f ((words f q).next (if b then Idle else Syncing (length o)) (Sync m c)))
       (leads f (Spreads false d (e ++ if_mine f p) (λ k. d ++ served f e) c (turn_of o) o (length o) q v)
       (just_sent f is m (λ k _. renews d e p) (λ k. took_more d e p)
       (λ _. just_took d e p (turn_of o) (ap is_pending (turn_self f.members m))))

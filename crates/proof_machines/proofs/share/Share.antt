@@ -1,7 +1,10 @@
 -- The machine of one unit under a strict share: what it sees of the switch, the controller and the members. Nodes are numbers: the
 -- switch is 0, the controller 1, instances are from 2.
-use Rattle.std.proofs.Common.{ℕ, ◌-◌, Bool, true, false, Option, Some, None, List, [], ◌∷◌, ◌++◌, map, length}
+use Rattle.std.proofs.Common.{ℕ, Bool, true, false, Option, Some, None, List, [], ◌∷◌, ◌++◌, map, length}
 use Rattle.std.specs.Prelude.{if◌then◌else◌, ◌==◌}
+use Rattle.copy_share.specs.declared.share_phase.SharePhase.{SharePhase}
+use Rattle.copy_share.specs.ShareTable as said
+use Rattle.copy_share.specs.ShareTable.{Said, Words, on_fenced, on_chunks, on_shared, on_synced, service_if_idle}
 use Rattle.proof_machines.proofs.unit.Machine.{Steps}
 
 -- a packet and the node that processed it
@@ -106,45 +109,53 @@ member_does f j r Get = record { own = r; to_c = Chunks r ∷ []; ran = [] }
 member_does f j r (Sync c) = record { own = over c r; to_c = Synced ∷ []; ran = [] }
 member_does f j r item = record { own = r; to_c = []; ran = [] }
 
-pub data Phase : Type 0 where
-  Fencing : Phase
-  Getting : Phase
-  Setting : ℕ → Phase  -- so many have yet to answer, then the share is set up
-  Idle : Phase
-  Out : ℕ → Phase  -- a packet is out at this member
-  Syncing : ℕ → Phase  -- so many have yet to answer, then the next packet is served
-
 -- what the controller did
 pub record ControllerTurn (R : Type 0) : Type 0 where
-  pub phase : Phase
+  pub phase : SharePhase
   pub queue : List ℕ
   pub to_s : List (Item R)
   pub to : ℕ → List (Item R)
 
-abbrev pub waits : {R : Type 0} → Phase → List ℕ → ControllerTurn R
+abbrev pub waits : {R : Type 0} → SharePhase → List ℕ → ControllerTurn R
 waits phase q = record { phase = phase; queue = q; to_s = []; to = nowhere }
-
--- the front of the queue, if there is one, goes to its member
-abbrev pub serve : {R : Type 0} → UnitShare R → List ℕ → ControllerTurn R
-serve f [] = waits Idle []
-serve f (p ∷ q) = record (waits (Out (f.member_of p)) q) { to_s = Forward p (f.member_of p) ∷ [] }
-
--- so many have yet to answer; with none the next packet is served
-abbrev pub answers : {R : Type 0} → UnitShare R → (ℕ → Phase) → ℕ → List ℕ → ControllerTurn R
-answers f phase left q = if left == 0 then serve f q else waits (phase left) q
 
 -- a Sync to each of these
 abbrev pub sync_to : {R : Type 0} → List ℕ → Option R → ℕ → List (Item R)
 sync_to o c k = if has o k then Sync c ∷ [] else []
 
-abbrev pub share_does : {R : Type 0} → UnitShare R → Item R → Phase → List ℕ → ControllerTurn R
-share_does f Fenced Fencing q = record (waits Getting q) { to = only f.home (Get ∷ []) }
-share_does f (Chunks c) Getting q = record (answers f Setting (length (without_number f.members f.home)) q) { to = sync_to (without_number f.members f.home) c }
-share_does f Synced (Setting left) q = answers f Setting (left - 1) q
-share_does f Synced (Syncing left) q = answers f Syncing (left - 1) q
-share_does f (Chunk c) (Out m) q = record (answers f Syncing (length (without_number f.members m)) q) { to = sync_to (without_number f.members m) c }
-share_does f (Diverted p) Idle q = serve f (q ++ p ∷ [])
-share_does f (Diverted p) phase q = waits phase (q ++ p ∷ [])
+-- what a row says to the switch, and to the members
+abbrev pub said_to_switch : {R : Type 0} → Said ℕ (Option R) → List (Item R)
+said_to_switch (said.Forward to p) = Forward p to ∷ []
+said_to_switch says = []
+
+abbrev pub said_to : {R : Type 0} → UnitShare R → Said ℕ (Option R) → ℕ → List (Item R)
+said_to f said.Get = only f.home (Get ∷ [])
+said_to f (said.Sync one c) = sync_to (without_number f.members one) c
+said_to f says = nowhere
+
+-- the words of a share's table, with the queue
+abbrev pub words : {R : Type 0} → UnitShare R → List ℕ → Words ℕ (Option R) (ControllerTurn R) (ControllerTurn R)
+words f q = record {
+  home = f.home;
+  others = λ one. length (without_number f.members one);
+  member = f.member_of;
+  next = λ phase says. record { phase = phase; queue = q; to_s = said_to_switch says; to = said_to f says };
+  done = λ did. did;
+  keeps = λ did. did;
+  stores = λ left did. record did { queue = left };
+}
+
+-- after its row a share serves, and that is said to the switch alone
+abbrev pub serves : {R : Type 0} → UnitShare R → ControllerTurn R → ControllerTurn R
+serves f did = let next = service_if_idle (words f did.queue) did.phase did.queue in record next { to_s = did.to_s ++ next.to_s; to = did.to }
+
+-- the unit sees a packet's chunk come from the member at which the packet is out alone
+abbrev pub share_does : {R : Type 0} → UnitShare R → Item R → SharePhase → List ℕ → ControllerTurn R
+share_does f Fenced phase q = serves f (on_fenced (words f q) phase)
+share_does f (Chunks c) phase q = serves f (on_chunks (words f q) phase c)
+share_does f (Chunk c) phase q = serves f (on_shared (words f q) phase (λ member. true) c)
+share_does f Synced phase q = serves f (on_synced (λ next. waits next q) (λ did. did) phase)
+share_does f (Diverted p) phase q = serves f (waits phase (q ++ p ∷ []))
 share_does f item phase q = waits phase q
 
 -- all that the unit sees
@@ -155,7 +166,7 @@ pub record View (R : Type 0) : Type 0 where
   pub to : ℕ → List (Item R)  -- to an instance
   pub back : ℕ → List (Item R)  -- from an instance to the controller
   pub own : ℕ → Option R  -- a member's record
-  pub phase : Phase
+  pub phase : SharePhase
   pub queue : List ℕ
   pub diverts : Bool  -- whether the switch sends the unit's packets to the controller
   pub done : List Ran

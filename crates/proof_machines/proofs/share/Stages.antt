@@ -2,10 +2,11 @@
 -- what was processed and seen, what arrived, and where the packets wait (`path`).
 use Rattle.std.proofs.Common.{◌≡◌, ℕ, ◌+◌, ◌<◌, Bool, true, false, not, Option, List, [], ◌∷◌, ◌++◌, map, length, ◌⊎◌}
 use Rattle.std.specs.Prelude.{if◌then◌else◌, ◌&&◌, ◌==◌}
+use Rattle.copy_share.specs.declared.share_phase.SharePhase.{SharePhase}
+use Rattle.copy_share.specs.declared.share_phase.SharePhase.TheVariants.{Fencing, Getting, Setting, Idle, Out, Syncing}
 use Rattle.proof_machines.proofs.share.Share.{Ran, Item, Item.Carry, Item.Fence, Item.Shared, Item.Diverted, Item.Install, Item.Forward, Item.Get, Item.Sync}
-use Rattle.proof_machines.proofs.share.Share.{Item.Fenced, Item.Chunks, Item.Chunk, Item.Synced, UnitShare, Phase, Phase.Fencing, Phase.Getting, Phase.Setting}
-use Rattle.proof_machines.proofs.share.Share.{Phase.Idle, Phase.Out, Phase.Syncing, View, ShareMachineStep, ShareMachineStep.Arrive, has, if_mine, mine_in}
-use Rattle.proof_machines.proofs.share.Share.{after, chunk_of, over, only, nowhere}
+use Rattle.proof_machines.proofs.share.Share.{Item.Fenced, Item.Chunks, Item.Chunk, Item.Synced, UnitShare, View, ShareMachineStep, ShareMachineStep.Arrive}
+use Rattle.proof_machines.proofs.share.Share.{has, if_mine, mine_in, after, chunk_of, over, only, nowhere}
 
 -- where a member is with a Sync: it is on its way, the answer is, or neither
 pub data Turn : Type 0 where
@@ -125,7 +126,7 @@ path f (Carries d e p q v) = if_mine f p ++ (mine_in f q ++ mine_in f v)
 path f (Chunk_comes d e p q v) = mine_in f q ++ mine_in f v
 
 -- a view with nothing on its links but what is diverted
-abbrev pub still : {R : Type 0} → Phase → List ℕ → List ℕ → List Ran → (ℕ → Option R) → View R
+abbrev pub still : {R : Type 0} → SharePhase → List ℕ → List ℕ → List Ran → (ℕ → Option R) → View R
 still phase q v d own =
     record { sw = nowhere; sc = map Diverted v; cs = []; to = nowhere; back = nowhere; own = own; phase = phase; queue = q; diverts = true; done = d }
 
