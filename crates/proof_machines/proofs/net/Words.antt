@@ -41,7 +41,7 @@ pub use Rattle.proof_machines.proofs.net.Shares.{puts_get, keeps, meets_shares, 
 pub use Rattle.proof_machines.proofs.net.Shares.{share_taking, share_row, SharesStep, share_sends, arrive_sends, old_step, whole_input, SeeingShare, MemberTurn}
 pub use Rattle.proof_machines.proofs.net.Shares.{ran_of, EachNew, s_goes, share_target}
 pub use Rattle.proof_machines.proofs.share.Heads.{to_members, ToMembers, Meets, meets_sw, meets_to}
-pub use Rattle.proof_machines.proofs.share.Lists.{self, has-without, apart_of, cond-same, packets-append, runs-append}
+pub use Rattle.proof_machines.proofs.share.Lists.{self, has-without, apart_of, cond-same, runs-append}
 pub use Rattle.proof_machines.proofs.share.Places.{Grows, placed}
 pub use Rattle.proof_machines.proofs.share.Records.{own_is, done_is, is_live, seen_front}
 pub use Rattle.proof_machines.proofs.share.Share.{Item.Carry, serves, said_to}

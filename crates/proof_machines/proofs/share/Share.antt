@@ -1,7 +1,8 @@
 -- The machine of one unit under a strict share: what it sees of the switch, the controller and the members. Nodes are numbers: the
 -- switch is 0, the controller 1, instances are from 2.
 use Rattle.std.proofs.Common.{ℕ, Bool, true, false, Option, Some, None, List, [], ◌∷◌, ◌++◌, map, length}
-use Rattle.std.specs.Prelude.{if◌then◌else◌, ◌==◌}
+use Rattle.std.specs.Prelude.{if◌then◌else◌, ◌==◌, not, filter}
+use Rattle.std.specs.List.{flat_map}
 use Rattle.copy_share.specs.declared.share_phase.SharePhase.{SharePhase}
 use Rattle.copy_share.specs.ShareTable as said
 use Rattle.copy_share.specs.ShareTable.{Said, Words, on_fenced, on_chunks, on_shared, on_synced, service_if_idle}
@@ -12,8 +13,7 @@ abbrev pub Ran : Type 0
 Ran = ℕ × ℕ
 
 abbrev pub at_node : ℕ → List ℕ → List Ran
-at_node j [] = []
-at_node j (p ∷ ps) = (p, j) ∷ at_node j ps
+at_node j ps = map (λ p. (p, j)) ps
 
 abbrev pub runs : {R : Type 0} → Steps R → Option R → List Ran → Option R
 runs F r [] = r
@@ -54,8 +54,7 @@ has [] k = false
 has (x ∷ xs) k = if k == x then true else has xs k
 
 abbrev pub without_number : List ℕ → ℕ → List ℕ
-without_number [] k = []
-without_number (x ∷ xs) k = if x == k then without_number xs k else x ∷ without_number xs k
+without_number xs k = filter (λ x. not (x == k)) xs
 
 -- the fold of what was processed
 abbrev pub after : {R : Type 0} → UnitShare R → List Ran → Option R
@@ -66,8 +65,7 @@ abbrev pub if_mine : {R : Type 0} → UnitShare R → ℕ → List ℕ
 if_mine f p = if f.mine p then p ∷ [] else []
 
 abbrev pub mine_in : {R : Type 0} → UnitShare R → List ℕ → List ℕ
-mine_in f [] = []
-mine_in f (p ∷ ps) = if_mine f p ++ mine_in f ps
+mine_in f ps = flat_map (if_mine f) ps
 
 -- what the chunk of a packet shows of the unit
 abbrev pub chunk_of : {R : Type 0} → UnitShare R → ℕ → Option R → Option R

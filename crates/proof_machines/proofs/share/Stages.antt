@@ -53,8 +53,7 @@ pub data Stage (R : Type 0) : Type 0 where
 
 -- packets, each at its member
 abbrev pub served : {R : Type 0} → UnitShare R → List ℕ → List Ran
-served f [] = []
-served f (p ∷ ps) = (p, f.member_of p) ∷ served f ps
+served f ps = map (λ p. (p, f.member_of p)) ps
 
 -- what a member's record has seen
 abbrev pub front : {R : Type 0} → UnitShare R → Stage R → ℕ → List Ran
@@ -83,8 +82,7 @@ processed f (Carries d e p q v) = d ++ served f e
 processed f (Chunk_comes d e p q v) = d ++ served f (e ++ if_mine f p)
 
 abbrev pub packets : List Ran → List ℕ
-packets [] = []
-packets (d ∷ ds) = d.0 ∷ packets ds
+packets ds = map (λ d. d.0) ds
 
 -- the unit's packets that arrived before the switch diverted: those that were processed, then those that wait
 abbrev pub early : {R : Type 0} → Stage R → List ℕ

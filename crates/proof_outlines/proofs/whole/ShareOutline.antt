@@ -4,7 +4,7 @@ use Rattle.proof_outlines.proofs.Words.{◌∙◌, subst, arith, if◌then◌els
 use Rattle.proof_outlines.proofs.Words.{nat_tests, Flow, Packet, Site, flow_of, Chunk, Chunks, Semantics, spelled, FullCell, Msg, instance_node, SharePhase}
 use Rattle.proof_outlines.proofs.Words.{SharePlan, ShareState, ShareRow, Served, home, others, member_of, service_if_idle, Each, each-append, without_number}
 use Rattle.proof_outlines.proofs.Words.{Sys, New, S_sync, Sharing, OpenShare, Told, Is_fenced, Has_chunks, Has_chunk, Is_synced, Has_packet, ShareTurn}
-use Rattle.proof_outlines.proofs.Words.{share_row, Unit, split}
+use Rattle.proof_outlines.proofs.Words.{share_row, Unit, split, cond, true, false}
 use Rattle.std.specs.Prelude.{filter}
 use Rattle.copy_share.specs.Share.{next_phase, row, words}
 use Rattle.copy_share.specs.Share as shares
@@ -46,12 +46,11 @@ same_node a b = grind (arith, nat_tests)
 others_same : (one : ℕ) (ms : List ℕ)
     → without_number (map instance_node ms) (instance_node one) ≡ map instance_node (filter (λ member. not (member == one)) ms)
 others_same one [] = refl
-others_same one (m ∷ ms) = ap (λ b. if b then without_number (map instance_node ms) (instance_node one)
-    else instance_node m ∷ without_number (map instance_node ms) (instance_node one)) (same_node m one)
-    ∙ split (m == one) (λ b.
-    (if b then without_number (map instance_node ms) (instance_node one) else instance_node m ∷ without_number (map instance_node ms) (instance_node one))
-    ≡ map instance_node (if not b then m ∷ filter (λ member. not (member == one)) ms else filter (λ member. not (member == one)) ms))
-    (λ _. others_same one ms) (λ _. ap (λ xs. instance_node m ∷ xs) (others_same one ms))
+others_same one (m ∷ ms) =
+    let rest = filter (λ member. not (member == one)) ms in
+    rw (same_node m one, others_same one ms) (elim (m == one)
+    as (λ b. cond (not b) (instance_node m ∷ map instance_node rest) (map instance_node rest) ≡ map instance_node (cond (not b) (m ∷ rest) rest))
+    [ true ↦ refl | false ↦ refl ])
 
 count_same : (plan : SharePlan) (one : ℕ) → length (without_number (map instance_node plan.members) (instance_node one)) ≡ length (others plan one)
 count_same plan one = ap length (others_same one plan.members) ∙ length-map (others plan one) instance_node
