@@ -1,7 +1,7 @@
 -- A strict share: instances that process the packets of the same units one at a time, in the controller's order, each with the
--- others' state. Its phases, what it does with each message, and which packet it serves next. This project's own, after the strictly
+-- others' state. What it says to whom, with the rows of its table, and which packet it serves next. This project's own, after the strictly
 -- consistent shares of OpenNF.
-use Rattle.std.specs.Prelude.{ℕ, ◌-◌, ◌==◌, Bool, true, false, not, List, [], ◌∷◌, map, length, filter, Option, None, Some, slice_index, if◌then◌else◌}
+use Rattle.std.specs.Prelude.{ℕ, ◌==◌, Bool, true, false, not, List, [], ◌∷◌, map, length, filter, Option, None, Some, slice_index, if◌then◌else◌}
 use Rattle.flow_filter.specs.declared.filter.Filter.{Filter}
 use Rattle.flow_filter.specs.declared.flow.Flow.{Flow}
 use Rattle.flow_filter.specs.declared.site.Site.{Site}
@@ -16,7 +16,9 @@ use Rattle.nf_msgs.specs.declared.msg.Msg.{Msg}
 use Rattle.nf_msgs.specs.declared.msg.Msg.TheVariants as msg
 use Rattle.nf_msgs.specs.Nodes.{switch_node, instance_node}
 use Rattle.copy_share.specs.declared.share_phase.SharePhase.{SharePhase}
-use Rattle.copy_share.specs.declared.share_phase.SharePhase.TheVariants.{Fencing, Getting, Setting, Idle, Out, Syncing}
+use Rattle.copy_share.specs.declared.share_phase.SharePhase.TheVariants.{Fencing, Idle}
+use Rattle.copy_share.specs.ShareTable.{Said, Nothing, Get, Sync, Forward, Words}
+use Rattle.copy_share.specs.ShareTable as table
 
 -- what is shared: the command's number, the members by their numbers, the first of which is the home, the filter of the units, and the
 -- site by which a packet's flow is told
@@ -59,47 +61,6 @@ share_at_start plan = record { plan = plan; phase = Fencing }
 abbrev pub begin_sends : SharePlan → List (ℕ × Msg)
 begin_sends plan = (switch_node, msg.Install plan.op plan.filter (home plan) Controller) ∷ []
 
--- so many members have yet to take the first records: with none the share is set up, and answered
-abbrev pub setting : ℕ → List (ℕ × Msg) → ShareRow
-setting left sends =
-    if left == 0 then record { phase = Idle; sends = sends; answer = Some Done }
-    else next_phase (Setting left) sends
-
--- so many members have yet to take the records after a packet: with none no packet is out
-abbrev pub syncing : ℕ → List (ℕ × Msg) → ShareRow
-syncing left sends = next_phase (if left == 0 then Idle else Syncing left) sends
-
--- the fence came to the home: what it processed before is all that isn't shared
-abbrev pub on_fenced : SharePlan → SharePhase → ShareRow
-on_fenced plan Fencing = next_phase Getting ((instance_node (home plan), msg.Get plan.op plan.filter) ∷ [])
-on_fenced plan phase = next_phase phase []
-
--- the first records come from the home
-abbrev pub on_chunks : SharePlan → SharePhase → List Chunk → ShareRow
-on_chunks plan Getting chunks = setting (length (others plan (home plan))) (syncs plan (home plan) chunks)
-on_chunks plan phase chunks = next_phase phase []
-
--- a member has processed the packet that is out at it
-abbrev pub on_shared : SharePlan → SharePhase → ℕ → Chunk → ShareRow
-on_shared plan (Out member) sender chunk =
-    if sender == instance_node member then syncing (length (others plan member)) (syncs plan member (chunk ∷ []))
-    else next_phase (Out member) []
-on_shared plan phase sender chunk = next_phase phase []
-
--- a member has taken the records
-abbrev pub on_synced : SharePhase → ShareRow
-on_synced (Setting left) = setting (left - 1) []
-on_synced (Syncing left) = syncing (left - 1) []
-on_synced phase = next_phase phase []
-
--- the table of a share. What it doesn't name comes in no run
-abbrev pub row : ShareState → ℕ → Msg → ShareRow
-row s sender (msg.Fenced op) = if sender == instance_node (home s.plan) then on_fenced s.plan s.phase else next_phase s.phase []
-row s sender (msg.Chunks op chunks) = if sender == instance_node (home s.plan) then on_chunks s.plan s.phase chunks else next_phase s.phase []
-row s sender (msg.Shared op chunk) = on_shared s.plan s.phase sender chunk
-row s sender (msg.Synced op) = on_synced s.phase
-row s sender message = next_phase s.phase []
-
 -- the member that a flow's packets go to
 abbrev pub member_for : SharePlan → Flow → ℕ
 member_for plan flow = slice_index plan.members (place_among flow (length plan.members))
@@ -113,18 +74,63 @@ pub record Served : Type 0 where
   pub sends : List (ℕ × Msg)
   pub stored : Option (List FullCell)
 
--- the next packet goes to its member
-abbrev pub service_of : SharePlan → FullCell → List FullCell → Served
-service_of plan cell cells = let member = member_of plan cell in record {
-  phase = Out member;
-  sends = (switch_node, msg.Forward member (Shared plan.op (member == home plan)) cell) ∷ [];
-  stored = Some cells;
+-- the row of a share that is set up, which is its answer
+abbrev pub answered : ShareRow → ShareRow
+answered row = record row { answer = Some Done }
+
+-- so many members have yet to take the first records, or those after a packet
+abbrev pub setting : ℕ → List (ℕ × Msg) → ShareRow
+setting left sends = table.setting (λ phase. next_phase phase sends) answered left
+
+abbrev pub syncing : ℕ → List (ℕ × Msg) → ShareRow
+syncing left sends = table.syncing (λ phase. next_phase phase sends) left
+
+-- what a row says, as messages with their receivers
+abbrev pub messages_of : SharePlan → Said FullCell (List Chunk) → List (ℕ × Msg)
+messages_of plan Nothing = []
+messages_of plan Get = (instance_node (home plan), msg.Get plan.op plan.filter) ∷ []
+messages_of plan (Sync one chunks) = syncs plan one chunks
+messages_of plan (Forward member cell) = (switch_node, msg.Forward member (Shared plan.op (member == home plan)) cell) ∷ []
+
+-- the words of the table, and its rows: the fence came to the home, the first records came from there, a member has processed a packet, or has
+-- taken records
+abbrev pub words : SharePlan → Words FullCell (List Chunk) ShareRow Served
+words plan = record {
+  home = home plan;
+  others = λ one. length (others plan one);
+  member = λ cell. member_of plan cell;
+  next = λ phase said. next_phase phase (messages_of plan said);
+  done = answered;
+  keeps = λ row. record { phase = row.phase; sends = row.sends; stored = None };
+  stores = λ cells row. record { phase = row.phase; sends = row.sends; stored = Some cells };
 }
 
--- a packet is served only where the share is set up, none is out, and one waits
+abbrev pub on_fenced : SharePlan → SharePhase → ShareRow
+on_fenced plan phase = table.on_fenced (words plan) phase
+
+abbrev pub on_chunks : SharePlan → SharePhase → List Chunk → ShareRow
+on_chunks plan phase chunks = table.on_chunks (words plan) phase chunks
+
+abbrev pub on_shared : SharePlan → SharePhase → ℕ → Chunk → ShareRow
+on_shared plan phase sender chunk = table.on_shared (words plan) phase (λ member. sender == instance_node member) (chunk ∷ [])
+
+abbrev pub on_synced : SharePhase → ShareRow
+on_synced phase = table.on_synced (λ next. next_phase next []) answered phase
+
+-- the table of a share. What it doesn't name comes in no run
+abbrev pub row : ShareState → ℕ → Msg → ShareRow
+row s sender (msg.Fenced op) = if sender == instance_node (home s.plan) then on_fenced s.plan s.phase else next_phase s.phase []
+row s sender (msg.Chunks op chunks) = if sender == instance_node (home s.plan) then on_chunks s.plan s.phase chunks else next_phase s.phase []
+row s sender (msg.Shared op chunk) = on_shared s.plan s.phase sender chunk
+row s sender (msg.Synced op) = on_synced s.phase
+row s sender message = next_phase s.phase []
+
+-- the next packet goes to its member; it is served only where the share is set up, none is out, and one waits
+abbrev pub service_of : SharePlan → FullCell → List FullCell → Served
+service_of plan cell cells = table.service_of (words plan) cell cells
+
 abbrev pub service_if_idle : SharePlan → SharePhase → List FullCell → Served
-service_if_idle plan Idle (cell ∷ cells) = service_of plan cell cells
-service_if_idle plan phase cells = record { phase = phase; sends = []; stored = None }
+service_if_idle plan phase cells = table.service_if_idle (words plan) phase cells
 
 -- whether a share has nothing to do: it is set up, no packet is out, and none waits
 abbrev pub is_idle : SharePhase → List FullCell → Bool

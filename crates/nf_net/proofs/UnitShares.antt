@@ -3,18 +3,18 @@
 use Rattle.nf_net.proofs.Words.{◌≡◌, ℕ, ◌+◌, ◌<◌, ◌≤◌, inl, inr, Bool, true, false, Option, Some, None, List, [], ◌∷◌, map, length, refl, sym, ap, ◌∙◌, subst}
 use Rattle.nf_net.proofs.Words.{arith, if◌then◌else◌, ◌&&◌, ◌||◌, ◌==◌, not, find, is_some, slice_index, slice_index_or, filter_map, length-map, Decides-eqb}
 use Rattle.nf_net.proofs.Words.{Filter, Flow, Semantics, takes, Msg, Note, instance_node, ShareState, home, SharePhase, Operation, Move, Copy, Share, place_of}
-use Rattle.nf_net.proofs.Words.{Network, Stage, shape, where_two, found_each, unit_share, OpenShare, moves_of, ElsewhereHome, seeing, ItsShare, its_share}
-use Rattle.nf_net.proofs.Words.{WhereAll, Apart_from_shares, Under_share, Config, Node, is_begun, has_answered, is_share, answers_of, times_installed, IsInput}
-use Rattle.nf_net.proofs.Words.{order_numbered, packet_numbered, installs_in, first_owner, is_home, owner, members, member_for, unit_fits, takes_whole}
-use Rattle.nf_net.proofs.Words.{takes_same, is_sys, Both, both, RealShare, real_share, Given, place, is_diverted, S, A, Joined, came_by, AreApart, AllApart}
-use Rattle.nf_net.proofs.Words.{names_known, given, Unit, Order, flow_of, Done, split}
+use Rattle.nf_net.proofs.Words.{Network, Stage, UnitShare, shape, where_two, found_each, unit_share, OpenShare, moves_of, ElsewhereHome, seeing, ItsShare}
+use Rattle.nf_net.proofs.Words.{its_share, WhereAll, Apart_from_shares, Under_share, Config, Node, is_begun, has_answered, is_share, answers_of}
+use Rattle.nf_net.proofs.Words.{times_installed, IsInput, order_numbered, packet_numbered, installs_in, first_owner, is_home, owner, members, member_for}
+use Rattle.nf_net.proofs.Words.{unit_fits, takes_whole, takes_same, is_sys, Both, both, RealShare, real_share, Given, place, is_diverted, S, A, Joined, came_by}
+use Rattle.nf_net.proofs.Words.{AreApart, AllApart, names_known, given, Unit, Order, flow_of, Done, split}
 use Rattle.std.specs.Prelude.{◌%◌}
 use Rattle.std.specs.FinMap as finite
 use Rattle.std.proofs.lemmas.Nat.{mod_below}
-use Rattle.proof_machines.proofs.share.Share as machine
+use Rattle.proof_machines.proofs.share.TableViews.{map_phase}
 use Rattle.proof_machines.proofs.share.Stages.{Stage.Diverting}
 use Rattle.proof_outlines.proofs.outline.FiltersApart.{filters_apart}
-use Rattle.proof_outlines.proofs.whole.ShareOutline.{share_phase, index_same}
+use Rattle.proof_outlines.proofs.whole.ShareOutline.{index_same}
 use Rattle.proof_outlines.proofs.joined.Joined.{IsShare}
 use Rattle.nf_net.proofs.RunWords.{unanswered, Busy, own_controller, keeps_is, plan_is, told_is, open_began, is_set_up}
 use Rattle.nf_net.proofs.answers.InstallRuns.{Installs, dones_still}
@@ -22,19 +22,13 @@ use Rattle.nf_net.proofs.answers.InstallSteps.{is_moving, dones, open_in}
 use Rattle.nf_net.proofs.MemberLemmas.{IsThere, There, is_there, IsSharedBy, shared_by, members_diverted, InstalledIn, installed_in, times_there, home_first}
 use Rattle.nf_net.proofs.MemberLemmas.{member_at}
 
--- a share that is set up, as its proof sees it
-abbrev serves : machine.Phase → Bool
-serves machine.Fencing = false
-serves machine.Getting = false
-serves (machine.Setting left) = false
-serves ph = true
-
-serves_same : (ph : SharePhase) → serves (share_phase ph) ≡ is_set_up ph
-serves_same SharePhase.Fencing = refl
-serves_same ph = refl
+-- a share that is set up, also as its proof sees it
+set_up_same : (ph : SharePhase) → is_set_up (map_phase instance_node ph) ≡ is_set_up ph
+set_up_same (SharePhase.Out member) = refl
+set_up_same ph = refl
 
 -- diverts the packets of its units
-serving_diverts : {R : Type 0} (f : machine.UnitShare R) (s : Stage R) → serves (shape f s).phase ≡ true → (shape f s).diverts ≡ true
+serving_diverts : {R : Type 0} (f : UnitShare R) (s : Stage R) → is_set_up (shape f s).phase ≡ true → (shape f s).diverts ≡ true
 serving_diverts f (Diverting d b l) e = cc
 serving_diverts f s e = refl
 
@@ -175,8 +169,8 @@ module _ {F R : Type 0} (f : Semantics R) (c : Config) (items : List Msg) (is : 
       same_state =
           let both : Some (Share o.state) ≡ Some (Share real.s) = sym o.there ∙ ap (finite.get j.nodes.controller.operations) number_is ∙ real.there in cc
 
-      pub phase_is : e.phase ≡ share_phase o.state.phase
-      phase_is = ap (λ x. x.phase) real.sees.is ∙ ap (λ s. share_phase s.phase) (sym same_state)
+      pub phase_is : e.phase ≡ map_phase instance_node o.state.phase
+      phase_is = ap (λ x. x.phase) real.sees.is ∙ ap (λ s. map_phase instance_node s.phase) (sym same_state)
 
       members_same : e.members ≡ map instance_node (filter_map (place_of c.names) ms)
       members_same = ap (λ x. x.members) real.sees.is ∙ ap (λ s. map instance_node s.plan.members) (sym same_state) ∙ ap (map instance_node) (sym o.members_are)
@@ -272,8 +266,8 @@ module _ {F R : Type 0} (f : Semantics R) (c : Config) (items : List Msg) (is : 
           let here : OpenShare = its_share (S f g) (A f g) (is_sys f g.site g.packet) u j.world x before _ k in
           let its : ItsShare (S f g) (A f g) (is_sys f g.site g.packet) u j.world here =
           record { found = k.holds.share; takes = k.covered; home_in = k.is.home_in } in
-          let serving : serves (shape (unit_share (S f g) (A f g) (seeing (S f g) (A f g) u x)) k.stage).phase ≡ true =
-          ap serves (phase_is op ms filter own on here its) ∙ serves_same own.state.phase ∙ set_up in
+          let serving : is_set_up (shape (unit_share (S f g) (A f g) (seeing (S f g) (A f g) u x)) k.stage).phase ≡ true =
+          ap is_set_up (phase_is op ms filter own on here its) ∙ set_up_same own.state.phase ∙ set_up in
           k.holds.target ∙ ap (λ d. if d then 1 else x.home) (serving_diverts (unit_share (S f g) (A f g) (seeing (S f g) (A f g) u x)) k.stage serving)
 
       pub set_up_installed : 1 ≤ times_installed op w.log

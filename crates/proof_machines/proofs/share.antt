@@ -1,4 +1,5 @@
 -- What one unit sees of a strict share, and that each step keeps its order and its records.
+pub mod TableViews
 pub mod Share
 pub mod Stages
 pub mod Lists

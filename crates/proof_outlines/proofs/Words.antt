@@ -133,7 +133,7 @@ pub use Rattle.proof_machines.proofs.net.Shares.{OpenShare, find_share, moves_of
 pub use Rattle.proof_machines.proofs.net.Shares.{told_by, share_target, ShareMsg, Shared_on, S_sync, member_step, whole_inst, Sharing, olds, S_shared, S_synced}
 pub use Rattle.proof_machines.proofs.net.Shares.{Diverted_on, share_taking, Told, Is_fenced, Has_chunk, Is_synced, Has_packet, ran_of, EachNew, arrive_sends}
 pub use Rattle.proof_machines.proofs.net.Shares.{asks, whole_input, S_forward, whole_switch, share_row, old_step, MemberTurn, shared_chunk, SharesStep}
-pub use Rattle.proof_machines.proofs.net.Shares.{ShareTurn, s_left, s_row, s_served, set_share, share_sends, IsSharing}
+pub use Rattle.proof_machines.proofs.net.Shares.{ShareTurn, set_share, share_sends, IsSharing}
 pub use Rattle.proof_machines.proofs.net.Stores.{ends}
 pub use Rattle.proof_machines.proofs.net.Waits.{Rising, rising_less}
 pub use Rattle.proof_machines.proofs.share.Lists.{self, cond-cond}

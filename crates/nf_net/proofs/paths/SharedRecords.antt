@@ -8,7 +8,7 @@ use Rattle.nf_net.proofs.Words.{standby_at, Given, S, A, done_same, given, Unit,
 use Rattle.std.specs.FinMap as finite
 use Rattle.proof_machines.proofs.share.Share.{runs}
 use Rattle.proof_machines.proofs.share.Stages.{packets}
-use Rattle.proof_machines.proofs.share.Lists.{packets-append}
+use Rattle.std.proofs.lemmas.List.{map-append}
 use Rattle.proof_machines.proofs.net.Readings.{fold}
 use Rattle.proof_machines.proofs.net.UnderReadings.{all_done}
 use Rattle.net_world.specs.Records.{shared_in, synced_in, is_to_take}
@@ -153,7 +153,7 @@ module _ {F R : Type 0} (here : Reached F R) (told : HomesTold here) (u : Unit) 
     behind = record {
       last = a.last;
       seen = packets a.seen;
-      last_is = went_is ∙ ap packets a.all ∙ packets-append a.seen ((a.last, node) ∷ []);
+      last_is = went_is ∙ ap packets a.all ∙ map-append (λ ran. ran.0) a.seen ((a.last, node) ∷ []);
       live = home_live ∙ a.live ∙ kept_runs a.seen;
       member = m;
       member_is = sym m_is;

@@ -8,7 +8,8 @@ use Rattle.proof_machines.proofs.share.Share.{Item, Item.Carry, Item.Fence, Item
 use Rattle.proof_machines.proofs.share.Stages.{Turn, Turn.Going, Turn.Coming, Turn.Quiet, is_going, is_pending, goes_to, Stage.Diverting, Stage.Fence_goes}
 use Rattle.proof_machines.proofs.share.Stages.{Stage.Fenced_comes, Stage.Get_goes, Stage.Chunks_come, Stage.Spreads, Stage.Resting, Stage.Forwards}
 use Rattle.proof_machines.proofs.share.Stages.{Stage.Carries, Stage.Chunk_comes, path, IsShare, Behind, FitsStage}
-use Rattle.proof_machines.proofs.share.Lists.{runs-append, served-append}
+use Rattle.proof_machines.proofs.share.Lists.{runs-append}
+use Rattle.std.proofs.lemmas.List.{map-append}
 use Rattle.proof_machines.proofs.share.Path as paths
 use Rattle.proof_machines.proofs.share.Path.{gather, gather_none, gather_only, carries, shared_in}
 use Rattle.proof_machines.proofs.share.Records.{not_pending}
@@ -101,7 +102,7 @@ module _ {R : Type 0} (f : UnitShare R) where
   one_more ds x = runs-append f.F None ds (x ∷ [])
 
   served_one : (d : List Ran) (e : List ℕ) (p : ℕ) → d ++ served f (e ++ p ∷ []) ≡ (d ++ served f e) ++ (p, f.member_of p) ∷ []
-  served_one d e p = ap (λ v. d ++ v) (served-append f e (p ∷ [])) ∙ sym (append_assoc d (served f e) ((p, f.member_of p) ∷ []))
+  served_one d e p = ap (λ v. d ++ v) (map-append (λ q. (q, f.member_of q)) e (p ∷ [])) ∙ sym (append_assoc d (served f e) ((p, f.member_of p) ∷ []))
 
   -- the member that has just processed a packet
   sent_back : (d : List Ran) (e : List ℕ) (p : ℕ) (q v : List ℕ) (t h : Bool) → f.mine p ≡ t → (f.home == f.member_of p) ≡ h → Sees (Chunk_comes d e p q v)

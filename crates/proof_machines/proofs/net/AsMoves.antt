@@ -1,13 +1,14 @@
 -- The whole world's steps as moves see them: a step on a message of a move is, to every unit, that of the moves' world; a step on a
 -- message of a share leaves the controller's moves as they are.
 use Rattle.proof_machines.proofs.net.Words.{◌≡◌, ℕ, Bool, true, false, Option, Some, None, List, [], ◌∷◌, ◌++◌, drop, refl, sym, ap, ◌∙◌, append-nil, arith}
-use Rattle.proof_machines.proofs.net.Words.{if◌then◌else◌, ◌&&◌, ◌==◌, option_map_or, nat_tests, Chunks, sent_for, Phase, Fencing, Getting, Setting, Idle, Out}
-use Rattle.proof_machines.proofs.net.Words.{Syncing, Msg, MoveAsked, Sys, process, inst_step, ctrl_step, sw_sends, begin_sends, behind, links_after, inst_next}
-use Rattle.proof_machines.proofs.net.Words.{ctrl_next, sw_next, begin_next, Any, Old, New, ShareMsg, Shared_on, S_forward, S_sync, ShareTurn, S_shared, olds}
-use Rattle.proof_machines.proofs.net.Words.{as_old, Sharing, OpenShare, Told, Is_fenced, Has_chunks, Has_chunk, Is_synced, Has_packet, syncs, s_row, s_served}
+use Rattle.proof_machines.proofs.net.Words.{if◌then◌else◌, ◌&&◌, ◌==◌, option_map_or, nat_tests, sent_for, Each, EachSent}
+use Rattle.proof_machines.proofs.net.Words.{Msg, MoveAsked, Sys, process, inst_step, ctrl_step, sw_sends, begin_sends, behind, links_after, inst_next}
+use Rattle.proof_machines.proofs.net.Words.{ctrl_next, sw_next, begin_next, Any, Old, New, ShareMsg, Shared_on, S_sync, S_shared, olds}
+use Rattle.proof_machines.proofs.net.Words.{as_old, Sharing, OpenShare, Told, Is_fenced, share_row}
 use Rattle.proof_machines.proofs.net.Words.{told_by, by_share, shared_chunk, member_step, WholeWorld, moves_of, whole_inst, whole_ctrl, whole_switch}
-use Rattle.proof_machines.proofs.net.Words.{begin_move, by_if, Unit}
+use Rattle.proof_machines.proofs.net.Words.{begin_move, Unit}
 use Rattle.proof_machines.proofs.net.Elsewhere.{Elsewhere}
+use Rattle.proof_machines.proofs.net.ShareRows.{ToldOf, SentBy, share_row_by}
 
 abbrev pub put_old : {R : Type 0} → ℕ → Any R → List (ℕ × Msg R) → List (ℕ × Msg R)
 put_old j (Old m) xs = (j, m) ∷ xs
@@ -93,33 +94,23 @@ no_olds-after {R} l p k m rest sends waits is i j = news-after l p k rest sends 
 
 module _ {R : Type 0} (S : Sys R) (A : Sharing S) where
   -- a share sends messages of shares alone
-  syncs_new : (n home j : ℕ) (cs : Chunks R) (ms : List ℕ) → old_sends (syncs n home j cs ms) ≡ []
-  syncs_new n home j cs [] = refl
-  syncs_new n home j cs (m ∷ ms) =
-      elim (m == j) as (λ b. old_sends (if b then syncs n home j cs ms else (m, New (S_sync n (m == home) cs)) ∷ syncs n home j cs ms) ≡ [])
-      [ true ↦ syncs_new n home j cs ms | false ↦ syncs_new n home j cs ms ]
+  none_old : (e : OpenShare) (xs : List (ℕ × Any R)) → EachSent (SentBy S A e (λ _. Prim.Unit {0}) (λ _. Prim.Unit {0})) xs → old_sends xs ≡ []
+  none_old e [] h = refl
+  none_old e ((j, Old m) ∷ xs) h = absurd h.0
+  none_old e ((j, New m) ∷ xs) h = none_old e xs h.1
 
-  row_new : (e : OpenShare) (sender : ℕ) (told : Told R) (ph : Phase) (q : List ℕ) → old_sends (s_row S A e sender told ph q).sends ≡ []
-  row_new e sender Is_fenced Fencing q = by_if (λ (r : ShareTurn R). old_sends r.sends ≡ []) (sender == e.home) refl refl
-  row_new e sender (Has_chunks cs) Getting q = by_if (λ (r : ShareTurn R). old_sends r.sends ≡ []) (sender == e.home)
-      (syncs_new e.num e.home e.home cs e.members) refl
-  row_new e sender (Has_chunk c) (Out m) q = by_if (λ (r : ShareTurn R). old_sends r.sends ≡ []) (sender == m)
-      (syncs_new e.num e.home m (c ∷ []) e.members) refl
-  row_new e sender Is_synced (Setting left) q = refl
-  row_new e sender Is_synced (Syncing left) q = refl
-  row_new e sender (Has_packet p) ph q = refl
-  row_new e sender told ph q = refl
+  all_kept : (q : List ℕ) → Each (λ _. Prim.Unit {0}) q
+  all_kept [] = tt
+  all_kept (p ∷ q) = (tt, all_kept q)
 
-  served_new : (e : OpenShare) (ph : Phase) (q : List ℕ) (xs : List (ℕ × Any R)) → old_sends xs ≡ [] → old_sends (s_served S A e ph q xs).sends ≡ []
-  served_new e Idle (p ∷ q) xs none =
-      old_sends-append xs ((0, New (S_forward e.num (A.member e.members p == e.home) p (A.member e.members p))) ∷ []) ∙ ap (λ v. v ++ []) none
-  served_new e ph q xs none = none
+  any_told : (e : OpenShare) (told : Told R) → ToldOf S A e (λ _. Prim.Unit {0}) (λ _. Prim.Unit {0}) told
+  any_told e Is_fenced = tt
+  any_told e told = tt
 
   pub by_share_new : (es : List OpenShare) (sender : ℕ) (o : Option (OpenShare × Told R)) → old_sends (by_share S A es sender o).sends ≡ []
   by_share_new es sender None = refl
-  by_share_new es sender (Some x) =
-      let r = s_row S A x.0 sender x.1 x.0.phase x.0.queue in
-      served_new x.0 r.phase r.queue r.sends (row_new x.0 sender x.1 x.0.phase x.0.queue)
+  by_share_new es sender (Some x) = none_old x.0 (share_row S A x.0 sender x.1).sends
+      (share_row_by S A x.0 (λ _. Prim.Unit {0}) (λ _. Prim.Unit {0}) sender x.1 (any_told x.0 x.1) (all_kept x.0.queue)).1
 
   chunk_new : (n p : ℕ) (t : S.B.T) → old_sends (shared_chunk S A n p t) ≡ []
   chunk_new n p t = elim (S.B.at (S.packet_unit p) t) as (λ o. old_sends (option_map_or (λ r. (1, New (S_shared n (S.packet_unit p, r))) ∷ []) o []) ≡ [])

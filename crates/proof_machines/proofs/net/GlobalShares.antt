@@ -1,6 +1,6 @@
 -- What holds of all shares and of their messages stays when one of them changes, or another begins; and what a share's row sends is its own.
 use Rattle.proof_machines.proofs.net.Words.{◌≡◌, ℕ, ◌<◌, ◌≤◌, Bool, true, false, Option, Some, None, List, [], ◌∷◌, ◌++◌, length, refl, sym, ap, ◌∙◌, subst}
-use Rattle.proof_machines.proofs.net.Words.{arith, if◌then◌else◌, ◌==◌, nat_tests, Chunks, Each, each-append, each_any, Phase, has, Filter, Msg, Sys, Open}
+use Rattle.proof_machines.proofs.net.Words.{arith, if◌then◌else◌, ◌==◌, nat_tests, Chunks, Each, each-append, each_any, SharePhase, has, Filter, Msg, Sys, Open}
 use Rattle.proof_machines.proofs.net.Words.{find_op, ctrl_step, num_of, numbered, found, row, SameShare, AreNumbersApart, find_set, set_find, find_more}
 use Rattle.proof_machines.proofs.net.Words.{find_old, Opened, Numbered, Within, TakesSome, OfShare, Any, Old, New, ShareMsg, Shared_on, Diverted_on, S_asked}
 use Rattle.proof_machines.proofs.net.Words.{S_install, S_forward, S_get, S_sync, S_chunks, S_shared, S_synced, same, Sharing, IsSharing, OpenShare, find_share}
@@ -11,12 +11,12 @@ use Rattle.proof_machines.proofs.net.NewMessages.{OnNew}
 use Rattle.proof_machines.proofs.net.ShareRows.{Tells, ToldOf, SentBy, taking_each}
 
 -- Lists of shares
-pub each_set_any : (P : OpenShare → Type 0) (n : ℕ) (ph : Phase) (q : List ℕ) → ((e : OpenShare) → P e → P (record e { phase = ph; queue = q }))
+pub each_set_any : (P : OpenShare → Type 0) (n : ℕ) (ph : SharePhase) (q : List ℕ) → ((e : OpenShare) → P e → P (record e { phase = ph; queue = q }))
     → (es : List OpenShare) → Each P es → Each P (set_share n ph q es)
 each_set_any P n ph q step [] h = tt
 each_set_any P n ph q step (x ∷ es) h = by_if (Each P) (x.num == n) (step x h.0, h.1) (h.0, each_set_any P n ph q step es h.1)
 
-pub nums_set : (n : ℕ) (ph : Phase) (q : List ℕ) (es : List OpenShare) → AreNumbersApart es → AreNumbersApart (set_share n ph q es)
+pub nums_set : (n : ℕ) (ph : SharePhase) (q : List ℕ) (es : List OpenShare) → AreNumbersApart es → AreNumbersApart (set_share n ph q es)
 nums_set n ph q [] h = tt
 nums_set n ph q (x ∷ es) h = by_if AreNumbersApart (x.num == n) (h.0, h.1)
     (each_set_any (λ d. (x.num == d.num) ≡ false) n ph q (λ d k. k) es h.0, nums_set n ph q es h.1)
@@ -33,7 +33,7 @@ not_yet [] n b fresh few = refl
 not_yet (e ∷ es) n b fresh few =
     let less : e.num < b = few.0 in let off : (e.num == n) ≡ false = grind (arith, nat_tests, less, fresh) in rw off (not_yet es n b fresh few.1)
 
-pub none_set : (n : ℕ) (ph : Phase) (q : List ℕ) (es : List OpenShare) (k : ℕ) → find_share es k ≡ None → find_share (set_share n ph q es) k ≡ None
+pub none_set : (n : ℕ) (ph : SharePhase) (q : List ℕ) (es : List OpenShare) (k : ℕ) → find_share es k ≡ None → find_share (set_share n ph q es) k ≡ None
 none_set n ph q es k none = by_found (find_share (set_share n ph q es) k) refl
   where
     by_found : (o : Option OpenShare) → find_share (set_share n ph q es) k ≡ o → o ≡ None
@@ -86,7 +86,7 @@ self false = refl
 
 module _ {R : Type 0} (S : Sys R) where
   -- Messages: as the shares change
-  opened_set : (n : ℕ) (ph : Phase) (q : List ℕ) (es : List OpenShare) (k : ℕ) (P : OpenShare → Type 0) → ((d e : OpenShare) → SameShare d e → P e → P d)
+  opened_set : (n : ℕ) (ph : SharePhase) (q : List ℕ) (es : List OpenShare) (k : ℕ) (P : OpenShare → Type 0) → ((d e : OpenShare) → SameShare d e → P e → P d)
       → Opened es k P → Opened (set_share n ph q es) k P
   opened_set n ph q es k P again o =
       let f = find_set n ph q es k o.share o.found in record { share = f.share; found = f.found; says = again f.share o.share f.same o.says }
@@ -100,7 +100,7 @@ module _ {R : Type 0} (S : Sys R) where
   same_within : (d e : OpenShare) (cs : Chunks R) → SameShare d e → Within S e.filter cs → Within S d.filter cs
   same_within d e cs s w v out = w v (ap (λ g. S.takes g v) (sym s.filter) ∙ out)
 
-  pub taking_set : (n : ℕ) (ph : Phase) (q : List ℕ) (es : List OpenShare) (v : Unit) → TakesSome S es v → TakesSome S (set_share n ph q es) v
+  pub taking_set : (n : ℕ) (ph : SharePhase) (q : List ℕ) (es : List OpenShare) (v : Unit) → TakesSome S es v → TakesSome S (set_share n ph q es) v
   taking_set n ph q [] v h = let never : None ≡ Some h.0 = h.1 in cc
   taking_set n ph q (x ∷ es) v h = by_if (λ r. TakesSome S r v) (x.num == n) (first (S.takes x.filter v) refl h.1)
       (later (S.takes x.filter v) refl h.1 (λ is. taking_set n ph q es v (h.0, is)))
@@ -115,7 +115,8 @@ module _ {R : Type 0} (S : Sys R) where
       later true on is more = (x, rw on refl)
       later false on is more = let k = more is in (k.0, rw on k.1)
 
-  pub of_share_set : (n : ℕ) (ph : Phase) (q : List ℕ) (es : List OpenShare) (j : ℕ) (m : ShareMsg R) → OfShare S es j m → OfShare S (set_share n ph q es) j m
+  pub of_share_set : (n : ℕ) (ph : SharePhase) (q : List ℕ) (es : List OpenShare) (j : ℕ) (m : ShareMsg R) → OfShare S es j m
+      → OfShare S (set_share n ph q es) j m
   of_share_set n ph q es j (Shared_on k home p) o = opened_set n ph q es k (λ e. (S.takes e.filter (S.packet_unit p) ≡ true)
       × (same home (j == e.home) ≡ true)) (λ d e s h. (same_filter d e (S.packet_unit p) true s h.0, same_home d e home j s h.1)) o
   of_share_set n ph q es j (Diverted_on p) o = (o.0, taking_set n ph q es (S.packet_unit p) o.1)

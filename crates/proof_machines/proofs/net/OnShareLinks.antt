@@ -1,13 +1,12 @@
--- What the links of a share's stage have at their heads: who sends what to the controller, what the switch is sent, and that no packet waits
--- where the share is idle.
-use Rattle.proof_machines.proofs.net.Words.{◌≡◌, ℕ, Bool, true, false, List, [], ◌∷◌, ◌++◌, map, sym, ap, subst, ◌∙◌, refl, if◌then◌else◌, ◌==◌, Decides-eqb}
-use Rattle.proof_machines.proofs.net.Words.{Diverted, Install, Forward, Fenced, Chunk, Synced, UnitShare, Phase, Fencing, Getting, Setting, Idle, Out, Syncing}
+-- What the links of a share's stage have at their heads: who sends what to the controller, and what the switch is sent.
+use Rattle.proof_machines.proofs.net.Words.{◌≡◌, ℕ, List, [], ◌∷◌, ◌++◌, map, sym, ap, subst, ◌∙◌, refl, if◌then◌else◌, ◌==◌, Decides-eqb}
+use Rattle.proof_machines.proofs.net.Words.{Diverted, Install, Forward, Fenced, Chunk, Synced, UnitShare, SharePhase, Fencing, Getting, Out}
 use Rattle.proof_machines.proofs.net.Words.{only, chunk_of, if_mine, Turn, Coming, comes_from, served, Stage, Diverting, Fence_goes, Fenced_comes, Get_goes}
 use Rattle.proof_machines.proofs.net.Words.{Chunks_come, Spreads, Resting, Forwards, Carries, Chunk_comes, shape, split}
 use Rattle.proof_machines.proofs.share.Share.{Item, Item.Chunks, after}
 
 -- the sender of an item to the controller, in a phase
-abbrev pub Sender : {R : Type 0} → UnitShare R → Phase → ℕ → Item R → Type 0
+abbrev pub Sender : {R : Type 0} → UnitShare R → SharePhase → ℕ → Item R → Type 0
 Sender f ph p Fenced = p ≡ f.home
 Sender f ph p (Chunks c) = p ≡ f.home
 Sender f ph p (Chunk c) = ph ≡ Out p
@@ -26,7 +25,7 @@ module _ {R : Type 0} (f : UnitShare R) where
   no_item : {P : Type 0} (it : Item R) (rest : List (Item R)) → ◌≡◌ {A = List (Item R)} [] (it ∷ rest) → P
   no_item it rest e = cc
 
-  answer_from : (ph : Phase) (p : ℕ) (t : Turn) (it : Item R) (rest : List (Item R)) → comes_from t ≡ it ∷ rest → Sender f ph p it
+  answer_from : (ph : SharePhase) (p : ℕ) (t : Turn) (it : Item R) (rest : List (Item R)) → comes_from t ≡ it ∷ rest → Sender f ph p it
   answer_from ph p Coming it rest e = let same : Synced ≡ it = cc in subst (Sender f ph p) same tt
   answer_from ph p turn it rest e = no_item it rest e
 
@@ -41,7 +40,7 @@ module _ {R : Type 0} (f : UnitShare R) where
   back_sender s p it rest e = no_item it rest e
 
   -- from the switch only what is diverted comes
-  diverted_from : (ph : Phase) (p : ℕ) (v : List ℕ) (it : Item R) (rest : List (Item R)) → map Diverted v ≡ it ∷ rest → Sender f ph p it
+  diverted_from : (ph : SharePhase) (p : ℕ) (v : List ℕ) (it : Item R) (rest : List (Item R)) → map Diverted v ≡ it ∷ rest → Sender f ph p it
   diverted_from ph p [] it rest e = no_item it rest e
   diverted_from ph p (q ∷ v) it rest e = let same : Diverted q ≡ it = cc in subst (Sender f ph p) same tt
 
@@ -64,17 +63,3 @@ module _ {R : Type 0} (f : UnitShare R) where
   cs_items (Diverting d b l) it rest e = let same : Install ≡ it = cc in subst To_switch same tt
   cs_items (Forwards d e₁ p q v) it rest e = let same : Forward p (f.member_of p) ≡ it = cc in subst To_switch same tt
   cs_items s it rest e = no_item it rest e
-
-  abbrev pub IdleEmpty : Phase → List ℕ → Type 0
-  IdleEmpty Idle q = q ≡ []
-  IdleEmpty ph q = Unit {0}
-
-  spread_idle : (first : Bool) (left : ℕ) (q : List ℕ) → IdleEmpty (if first then Setting left else Syncing left) q
-  spread_idle true left q = tt
-  spread_idle false left q = tt
-
-  -- a share that is idle has an empty queue
-  pub idle_empty : (s : Stage R) → IdleEmpty (shape f s).phase (shape f s).queue
-  idle_empty (Spreads first d e b c at o left q v) = spread_idle first left q
-  idle_empty (Resting d e v) = refl
-  idle_empty s = tt

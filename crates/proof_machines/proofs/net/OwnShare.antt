@@ -1,34 +1,35 @@
 -- A unit's own share takes what it is told: the unit sees what the share's machine does (`fenced_sees` to `packet_sees`).
-use Rattle.proof_machines.proofs.net.Words.{◌≡◌, ℕ, ◌-◌, ◌≤◌, Bool, true, false, Some, List, [], ◌∷◌, ◌++◌, length, refl, sym, ap, ◌∙◌, subst, append-nil}
+use Rattle.proof_machines.proofs.net.Words.{◌≡◌, ℕ, ◌≤◌, Bool, true, false, Option, Some, List, [], ◌∷◌, ◌++◌, map, refl, sym, ap, ◌∙◌, subst, append-nil}
 use Rattle.proof_machines.proofs.net.Words.{arith, if◌then◌else◌, ◌==◌, nat_tests, Decides-eqb, nat_eq_equiv, record_at, where_true, add, sent_for}
-use Rattle.proof_machines.proofs.net.Words.{items-append, sent_for-append, Forward, Get, Sync, Diverted, Fenced, Chunk, Synced, Stray, UnitShare, Phase}
-use Rattle.proof_machines.proofs.net.Words.{Fencing, Getting, Setting, Idle, Out, Syncing, has, without_number, only, nowhere, waits, serve, answers, sync_to}
-use Rattle.proof_machines.proofs.net.Words.{share_does, distinct, IsShare, self, has-without, apart_of, Sys, mine, unit_share, fit, share_seen, share_items}
-use Rattle.proof_machines.proofs.net.Words.{as_share, Any, New, S_forward, S_get, S_sync, same, Sharing, OpenShare, Told, Is_fenced, Has_chunks, Has_chunk}
-use Rattle.proof_machines.proofs.net.Words.{Is_synced, Has_packet, syncs, ShareTurn, s_goes, s_served, share_row, SeeingShare, split, false_from_ne_true, Unit}
+use Rattle.proof_machines.proofs.net.Words.{items-append, sent_for-append, Forward, Get, Sync, Diverted, Fenced, Chunk, Synced, Stray, UnitShare, SharePhase}
+use Rattle.proof_machines.proofs.net.Words.{Idle, Out, has, without_number, only, nowhere, waits, sync_to, serves, said_to, share_does, distinct, IsShare}
+use Rattle.proof_machines.proofs.net.Words.{self, has-without, apart_of, Sys, mine, unit_share, fit, share_seen, share_items, as_share, Any, New, S_forward}
+use Rattle.proof_machines.proofs.net.Words.{S_get, S_sync, same, Sharing, OpenShare, Told, Is_fenced, Has_chunks, Has_chunk, Is_synced, Has_packet, ShareTurn}
+use Rattle.proof_machines.proofs.net.Words.{s_row, s_serves, share_row, share_words, SeeingShare, split, false_from_ne_true, Unit}
+use Rattle.copy_share.specs.ShareTable as said
+use Rattle.copy_share.specs.ShareTable.{Said, on_fenced, on_chunks, on_shared, on_synced, service_if_idle}
 use Rattle.proof_machines.proofs.unit.Real
-use Rattle.proof_machines.proofs.share.Share.{Item, Item.Chunks, ControllerTurn}
-use Rattle.proof_machines.proofs.net.OnShareLinks.{Sender, IdleEmpty}
+use Rattle.proof_machines.proofs.share.Share.{Item, Item.Chunks, ControllerTurn, words, said_to_switch}
+use Rattle.proof_machines.proofs.share.Lists.{distinct-without}
+use Rattle.proof_machines.proofs.share.TableViews.{map_phase, Follow, fenced_follows, chunks_follows, shared_follows, synced_follows, Serve, service_follows}
+use Rattle.proof_machines.proofs.net.Shares.{syncs, share_says}
+use Rattle.proof_machines.proofs.net.OnShareLinks.{Sender}
 use Rattle.proof_machines.proofs.net.ShareLinks.{lone_view}
 
--- the loop over the members: one message for each but one
-syncs_sent : {R : Type 0} (n home j k : ℕ) (cs : Real.Chunks R) (ms : List ℕ) → distinct ms ≡ true
-    → sent_for k (syncs n home j cs ms) ≡ (if has (without_number ms j) k then New (S_sync n (k == home) cs) ∷ [] else [])
-syncs_sent n home j k cs [] d = refl
-syncs_sent n home j k cs (m ∷ ms) d =
+-- one message for each of these
+sent_each : {R : Type 0} (g : ℕ → Any R) (k : ℕ) (ms : List ℕ) → distinct ms ≡ true → sent_for k (map (λ m. (m, g m)) ms) ≡ (if has ms k then g k ∷ [] else [])
+sent_each g k [] d = refl
+sent_each g k (m ∷ ms) d =
     let a = apart_of (has ms m) (distinct ms) d in
-    split (m == j) (λ b. sent_for k (if b then syncs n home j cs ms else (m, New (S_sync n (m == home) cs)) ∷ syncs n home j cs ms) ≡
-    (if has (if b then without_number ms j else m ∷ without_number ms j) k then New (S_sync n (k == home) cs) ∷ [] else []))
-    (λ _. syncs_sent n home j k cs ms a.1)
-    (λ _. split (m == k) (λ b. (if b then New (S_sync n (m == home) cs) ∷ sent_for k (syncs n home j cs ms) else sent_for k (syncs n home j cs ms))
-    ≡ (if (if k == m then true else has (without_number ms j) k) then New (S_sync n (k == home) cs) ∷ [] else []))
+    let rest = sent_each g k ms a.1 in
+    split (m == k) (λ b. (if b then g m ∷ sent_for k (map (λ m. (m, g m)) ms) else sent_for k (map (λ m. (m, g m)) ms))
+    ≡ (if (if k == m then true else has ms k) then g k ∷ [] else []))
     (λ e.
     let eq : m ≡ k = (Decides-eqb m k).0 e in
-    let out : has (without_number ms j) k ≡ false = has-without ms j k ∙ rw (subst (λ y. has ms y ≡ false) eq a.0) refl in
+    let out : has ms k ≡ false = subst (λ y. has ms y ≡ false) eq a.0 in
     let on : (k == m) ≡ true = grind (arith, nat_tests) in
-    let rest = syncs_sent n home j k cs ms a.1 in
-    rw (rest, out, on) (ap (λ y. New (S_sync n (y == home) cs) ∷ []) eq))
-    (λ e. let off : (k == m) ≡ false = grind (arith, nat_tests) in rw off (syncs_sent n home j k cs ms a.1)))
+    rw (rest, out, on) (ap (λ y. g y ∷ []) eq))
+    (λ e. let off : (k == m) ≡ false = grind (arith, nat_tests) in rw off rest)
 
 module _ {R : Type 0} (S : Sys R) (A : Sharing S) (z : SeeingShare) (is : IsShare (unit_share S A z)) (insts : (k : ℕ) → has z.members k ≡ true → 2 ≤ k) where
   abbrev f : UnitShare R
@@ -55,7 +56,8 @@ module _ {R : Type 0} (S : Sys R) (A : Sharing S) (z : SeeingShare) (is : IsShar
   syncs_seen : (j : ℕ) (cs : Real.Chunks R) (k : ℕ)
       → share_items S A z k (sent_for k (syncs z.num z.home j cs z.members)) ≡ sync_to (without_number z.members j) (record_at z.unit cs) k
   syncs_seen j cs k =
-      ap (share_items S A z k) (syncs_sent z.num z.home j k cs z.members is.apart) ∙ split (has (without_number z.members j) k)
+      ap (share_items S A z k) (sent_each (λ m. New (S_sync z.num (m == z.home) cs)) k (without_number z.members j) (distinct-without z.members j is.apart))
+      ∙ split (has (without_number z.members j) k)
       (λ b. share_items S A z k (if b then New (S_sync z.num (k == z.home) cs) ∷ [] else []) ≡ (if b then Sync (record_at z.unit cs) ∷ [] else []))
       (λ _. ap (λ b. add (where_true b (fit S A z (same (k == z.home) (k == z.home)) (Sync (record_at z.unit cs)))) []) (self z.num)
       ∙ ap (λ it. it ∷ []) (agrees (k == z.home) (Sync (record_at z.unit cs)))) (λ _. refl)
@@ -63,120 +65,115 @@ module _ {R : Type 0} (S : Sys R) (A : Sharing S) (z : SeeingShare) (is : IsShar
   none_to_s : (j : ℕ) (cs : Real.Chunks R) → share_items S A z 0 (sent_for 0 (syncs z.num z.home j cs z.members)) ≡ []
   none_to_s j cs = let out : has (without_number z.members j) 0 ≡ false = has-without z.members j 0 ∙ rw none_at_0 refl in syncs_seen j cs 0 ∙ rw out refl
 
-  -- the packet that is served, as the unit sees it
-  abbrev forward : ℕ → ℕ × Any R
-  forward p = (0, New (S_forward z.num (A.member z.members p == z.home) p (A.member z.members p)))
-
-  forward_seen : (p : ℕ) → share_items S A z 0 (sent_for 0 (forward p ∷ [])) ≡ Forward p (A.member z.members p) ∷ []
-  forward_seen p =
-      ap (λ b. add (if b then Some (fit S A z (same (A.member z.members p == z.home) (A.member z.members p == z.home)) (Forward p (A.member z.members p)))
-      else where_true (mine S A z p) Stray) []) (self z.num)
-      ∙ ap (λ it. it ∷ []) (agrees (A.member z.members p == z.home) (Forward p (A.member z.members p)))
-
-  forward_else : (p k : ℕ) → (k == 0) ≡ false → share_items S A z k (sent_for k (forward p ∷ [])) ≡ []
-  forward_else p k off = let other : (0 == k) ≡ false = nat_eq_equiv.symm 0 k ∙ off in rw other refl
-
-  behind : (k : ℕ) (xs ys : List (ℕ × Any R))
-      → share_items S A z k (sent_for k (xs ++ ys)) ≡ share_items S A z k (sent_for k xs) ++ share_items S A z k (sent_for k ys)
-  behind k xs ys = ap (share_items S A z k) (sent_for-append k xs ys) ∙ items-append (share_seen S A z k) (sent_for k xs) (sent_for k ys)
-
-  module _ (ph0 : Phase) (q0 : List ℕ) (xs : List (ℕ × Any R)) (to : ℕ → List (Item R)) (at_0 : share_items S A z 0 (sent_for 0 xs) ≡ [])
-      (at_k : (k : ℕ) → (k == 0) ≡ false → share_items S A z k (sent_for k xs) ≡ to k) where
-    abbrev e : OpenShare
-    e = as_share S A z ph0 q0
-
-    plain : (ph : Phase) (q : List ℕ) → SeesRow (s_goes S A ph q xs) (record (waits ph q) { to = to })
-    plain ph q = record { phase = refl; queue = refl; to_s = at_0; to = at_k }
-
-    served_next : (q : List ℕ) → SeesRow (s_served S A e Idle q xs) (record (serve f q) { to = to })
-    served_next [] = plain Idle []
-    served_next (p ∷ q) = record {
-      phase = refl;
-      queue = refl;
-      to_s = behind 0 xs (forward p ∷ []) ∙ ap (λ v. v ++ share_items S A z 0 (sent_for 0 (forward p ∷ []))) at_0 ∙ forward_seen p;
-      to = λ k off. behind k xs (forward p ∷ []) ∙ ap (λ v. v ++ share_items S A z k (sent_for k (forward p ∷ []))) (at_k k off)
-          ∙ ap (λ v. to k ++ v) (forward_else p k off) ∙ append-nil (to k);
-    }
-
-    setting_sees : (left : ℕ) (q : List ℕ)
-        → SeesRow (s_served S A e (if left == 0 then Idle else Setting left) q xs) (record (answers f Setting left q) { to = to })
-    setting_sees left q = elim (left == 0) as (λ b. SeesRow (s_served S A e (if b then Idle else Setting left) q xs)
-        (record (if b then serve f q else waits (Setting left) q) { to = to })) [ true ↦ served_next q | false ↦ plain (Setting left) q ]
-
-    syncing_sees : (left : ℕ) (q : List ℕ)
-        → SeesRow (s_served S A e (if left == 0 then Idle else Syncing left) q xs) (record (answers f Syncing left q) { to = to })
-    syncing_sees left q = elim (left == 0) as (λ b. SeesRow (s_served S A e (if b then Idle else Syncing left) q xs)
-        (record (if b then serve f q else waits (Syncing left) q) { to = to })) [ true ↦ served_next q | false ↦ plain (Syncing left) q ]
-
-  -- nothing is sent but what is served
-  serve_nowhere : (q : List ℕ) → record (serve f q) { to = nowhere } ≡ serve f q
-  serve_nowhere [] = refl
-  serve_nowhere (p ∷ q) = refl
-
-  answers_nowhere : (phase : ℕ → Phase) (left : ℕ) (q : List ℕ) → record (answers f phase left q) { to = nowhere } ≡ answers f phase left q
-  answers_nowhere phase left q = elim (left == 0) as (λ b. record (if b then serve f q else waits (phase left) q) { to = nowhere }
-      ≡ (if b then serve f q else waits (phase left) q)) [ true ↦ serve_nowhere q | false ↦ refl ]
-
-  -- a message that changes nothing
-  pub still : (ph : Phase) (q : List ℕ) → IdleEmpty f ph q → SeesRow (s_served S A (as_share S A z ph q) ph q []) (waits ph q)
-  still Idle q empty = rw empty (record { phase = refl; queue = refl; to_s = refl; to = λ k _. refl })
-  still Fencing q empty = plain Fencing q [] nowhere refl (λ k _. refl) Fencing q
-  still Getting q empty = plain Getting q [] nowhere refl (λ k _. refl) Getting q
-  still x q empty = plain x q [] nowhere refl (λ k _. refl) x q
-
-  abbrev Row : Phase → List ℕ → ℕ → Told R → ShareTurn R
-  Row ph q sender told = share_row S A (as_share S A z ph q) sender told
-
-  is_home : (k : ℕ) → k ≡ z.home → (k == z.home) ≡ true
-  is_home k e = (Decides-eqb k z.home).1 e
+  -- the packet that is served
+  forward_seen : (to p : ℕ) → share_items S A z 0 ((New (S_forward z.num (to == z.home) p to)) ∷ []) ≡ Forward p to ∷ []
+  forward_seen to p =
+      ap (λ b. add (if b then Some (fit S A z (same (to == z.home) (to == z.home)) (Forward p to)) else where_true (mine S A z p) Stray) []) (self z.num)
+      ∙ ap (λ it. it ∷ []) (agrees (to == z.home) (Forward p to))
 
   get_seen : (k : ℕ) → share_items S A z k (sent_for k ((z.home, New (S_get z.num z.filter)) ∷ [])) ≡ only z.home (Get ∷ []) k
   get_seen k = lone_view S A z z.home k (New (S_get z.num z.filter)) ∙ ap (λ b. if z.home == k then add (where_true b Get) [] else []) (self z.num)
       ∙ ap (λ b. if b then Get ∷ [] else []) (nat_eq_equiv.symm z.home k)
 
-  pub fenced_sees : (ph : Phase) (q : List ℕ) (sender : ℕ) → IdleEmpty f ph q → Sender f ph sender Fenced
-      → SeesRow (Row ph q sender Is_fenced) (share_does f Fenced ph q)
-  fenced_sees Fencing q sender empty from =
-      let on = is_home sender from in
-      rw on (record {
+  phase_same : (ph : SharePhase) → map_phase (λ m. m) ph ≡ ph
+  phase_same (Out m) = refl
+  phase_same ph = refl
+
+  module _ (ph0 : SharePhase) (q0 : List ℕ) where
+    abbrev e : OpenShare
+    e = as_share S A z ph0 q0
+
+    -- the unit sees what is said
+    pub record Shows (s : Said ℕ (Real.Chunks R)) (t : Said ℕ (Option R)) : Type 0 where
+      pub to_s : share_items S A z 0 (sent_for 0 (share_says e s)) ≡ said_to_switch t
+      pub to : (k : ℕ) → (k == 0) ≡ false → share_items S A z k (sent_for k (share_says e s)) ≡ said_to f t k
+
+    goes : (q : List ℕ) {s : Said ℕ (Real.Chunks R)} {t : Said ℕ (Option R)} → Shows s t → (ph : SharePhase)
+        → SeesRow ((share_words S A e q).next ph s) ((words f q).next (map_phase (λ m. m) ph) t)
+    goes q shows ph = record { phase = sym (phase_same ph); queue = refl; to_s = shows.to_s; to = shows.to }
+
+    none : Shows said.Nothing said.Nothing
+    none = record { to_s = refl; to = λ k _. refl }
+
+    follow : (q : List ℕ) → Follow (share_words S A e q) (words f q) (λ m. m) SeesRow
+    follow q = record {
+      home = refl;
+      others = λ one. refl;
+      nothing = goes q none;
+      get = record {
         phase = refl;
         queue = refl;
         to_s = get_seen 0 ∙ (let away : (0 == z.home) ≡ false = nat_eq_equiv.symm 0 z.home ∙ home_0 in rw away refl);
         to = λ k _. get_seen k;
-      })
-  fenced_sees Getting q sender empty from = still Getting q empty
-  fenced_sees Idle q sender empty from = still Idle q empty
-  fenced_sees x q sender empty from = still x q empty
+      };
+      done = λ r. r;
+    }
 
-  pub chunks_sees : (ph : Phase) (q : List ℕ) (sender : ℕ) (cs : Real.Chunks R) → IdleEmpty f ph q → Sender f ph sender (Chunks (record_at z.unit cs))
-      → SeesRow (Row ph q sender (Has_chunks cs)) (share_does f (Chunks (record_at z.unit cs)) ph q)
-  chunks_sees Getting q sender cs empty from =
-      let on = is_home sender from in
-      rw on (setting_sees Getting q (syncs z.num z.home z.home cs z.members) (sync_to (without_number z.members z.home) (record_at z.unit cs))
-      (none_to_s z.home cs) (λ k _. syncs_seen z.home cs k) (length (without_number z.members z.home)) q)
-  chunks_sees Fencing q sender cs empty from = still Fencing q empty
-  chunks_sees Idle q sender cs empty from = still Idle q empty
-  chunks_sees x q sender cs empty from = still x q empty
+    syncs_show : (q : List ℕ) (cs : Real.Chunks R) (one : ℕ) (ph : SharePhase)
+        → SeesRow ((share_words S A e q).next ph (said.Sync one cs)) ((words f q).next (map_phase (λ m. m) ph) (said.Sync one (record_at z.unit cs)))
+    syncs_show q cs one ph = goes q {s = said.Sync one cs} {t = said.Sync one (record_at z.unit cs)}
+        (record { to_s = none_to_s one cs; to = λ k _. syncs_seen one cs k }) ph
 
-  pub chunk_sees : (ph : Phase) (q : List ℕ) (sender : ℕ) (c : Unit × R) → IdleEmpty f ph q → Sender f ph sender (Chunk (record_at z.unit (c ∷ [])))
-      → SeesRow (Row ph q sender (Has_chunk c)) (share_does f (Chunk (record_at z.unit (c ∷ []))) ph q)
-  chunk_sees (Out m) q sender c empty from =
-      let same_is : m ≡ sender = cc in
-      let on : (sender == m) ≡ true = (Decides-eqb sender m).1 (sym same_is) in
-      rw on (syncing_sees (Out m) q (syncs z.num z.home m (c ∷ []) z.members) (sync_to (without_number z.members m) (record_at z.unit (c ∷ [])))
-      (none_to_s m (c ∷ [])) (λ k _. syncs_seen m (c ∷ []) k) (length (without_number z.members m)) q)
-  chunk_sees ph q sender c empty from = still ph q empty
+    as_is : (r : ShareTurn R) (d : SharePhase → ControllerTurn R) → SeesRow r (d (map_phase (λ m. m) ph0)) → SeesRow r (d ph0)
+    as_is r d h = subst (λ ph. SeesRow r (d ph)) (phase_same ph0) h
 
-  pub synced_sees : (ph : Phase) (q : List ℕ) (sender : ℕ) → IdleEmpty f ph q → SeesRow (Row ph q sender Is_synced) (share_does f Synced ph q)
-  synced_sees (Setting left) q sender empty = subst (λ d. SeesRow (Row (Setting left) q sender Is_synced) d) (answers_nowhere Setting (left - 1) q)
-      (setting_sees (Setting left) q [] nowhere refl (λ k _. refl) (left - 1) q)
-  synced_sees (Syncing left) q sender empty = subst (λ d. SeesRow (Row (Syncing left) q sender Is_synced) d) (answers_nowhere Syncing (left - 1) q)
-      (syncing_sees (Syncing left) q [] nowhere refl (λ k _. refl) (left - 1) q)
-  synced_sees ph q sender empty = still ph q empty
+    -- what a row then serves
+    serve_seen : (q left : List ℕ) → Serve (follow left) SeesRow (λ _ _ r. r) q q
+    serve_seen [] left = tt
+    serve_seen (p ∷ q) left = record {
+      phase = refl;
+      queue = refl;
+      to_s = forward_seen (A.member z.members p) p;
+      to = λ k off. let other : (0 == k) ≡ false = nat_eq_equiv.symm 0 k ∙ off in rw other refl;
+    }
 
-  pub packet_sees : (ph : Phase) (q : List ℕ) (sender p : ℕ) → SeesRow (Row ph q sender (Has_packet p)) (share_does f (Diverted p) ph q)
-  packet_sees Idle q sender p = subst (λ d. SeesRow (Row Idle q sender (Has_packet p)) d) (serve_nowhere (q ++ p ∷ []))
-      (served_next Idle q [] nowhere refl (λ k _. refl) (q ++ p ∷ []))
-  packet_sees Fencing q sender p = plain Fencing q [] nowhere refl (λ k _. refl) Fencing (q ++ p ∷ [])
-  packet_sees Getting q sender p = plain Getting q [] nowhere refl (λ k _. refl) Getting (q ++ p ∷ [])
-  packet_sees x q sender p = plain x q [] nowhere refl (λ k _. refl) x (q ++ p ∷ [])
+    quiet : (ph : SharePhase) (q left : List ℕ) → (service_if_idle (words f left) ph q).to ≡ nowhere
+    quiet Idle (p ∷ q) left = refl
+    quiet ph q left = refl
+
+    behind : (k : ℕ) (xs ys : List (ℕ × Any R))
+        → share_items S A z k (sent_for k (xs ++ ys)) ≡ share_items S A z k (sent_for k xs) ++ share_items S A z k (sent_for k ys)
+    behind k xs ys = ap (share_items S A z k) (sent_for-append k xs ys) ∙ items-append (share_seen S A z k) (sent_for k xs) (sent_for k ys)
+
+    served : (r : ShareTurn R) (d : ControllerTurn R) → SeesRow r d → SeesRow (s_serves S A e r) (serves f d)
+    served r d h =
+        let next = service_if_idle (share_words S A e r.queue) r.phase r.queue in
+        let at : (ph : SharePhase) (q : List ℕ) → SeesRow (service_if_idle (share_words S A e q) ph q) (service_if_idle (words f q) ph q) = λ ph q.
+        subst (λ x. SeesRow (service_if_idle (share_words S A e q) ph q) (service_if_idle (words f q) x q)) (phase_same ph)
+        (service_follows (follow q) SeesRow (λ _ _ r. r) ph q q (serve_seen q q)) in
+        let its : SeesRow next (service_if_idle (words f d.queue) d.phase d.queue) = rw (← h.phase, ← h.queue) (at r.phase r.queue) in
+        record {
+          phase = its.phase;
+          queue = its.queue;
+          to_s = behind 0 r.sends next.sends ∙ ap (λ v. v ++ share_items S A z 0 (sent_for 0 next.sends)) h.to_s ∙ ap (λ v. d.to_s ++ v) its.to_s;
+          to = λ k off. behind k r.sends next.sends ∙ ap (λ v. v ++ share_items S A z k (sent_for k next.sends)) (h.to k off)
+              ∙ ap (λ v. d.to k ++ v) (its.to k off ∙ ap (λ to. to k) (quiet d.phase d.queue d.queue)) ∙ append-nil (d.to k);
+        }
+
+    abbrev Row : ℕ → Told R → ShareTurn R
+    Row sender told = share_row S A e sender told
+
+    is_home : (k : ℕ) → k ≡ z.home → (k == z.home) ≡ true
+    is_home k e = (Decides-eqb k z.home).1 e
+
+    pub fenced_sees : (sender : ℕ) → Sender f ph0 sender Fenced → SeesRow (Row sender Is_fenced) (share_does f Fenced ph0 q0)
+    fenced_sees sender from = let on = is_home sender from in
+        rw on (served _ _ (as_is _ (λ ph. on_fenced (words f q0) ph) (fenced_follows (follow q0) ph0)))
+
+    pub chunks_sees : (sender : ℕ) (cs : Real.Chunks R) → Sender f ph0 sender (Chunks (record_at z.unit cs))
+        → SeesRow (Row sender (Has_chunks cs)) (share_does f (Chunks (record_at z.unit cs)) ph0 q0)
+    chunks_sees sender cs from = let on = is_home sender from in rw on (served _ _ (as_is _ (λ ph. on_chunks (words f q0) ph (record_at z.unit cs))
+        (chunks_follows (follow q0) cs (record_at z.unit cs) (syncs_show q0 cs) ph0)))
+
+    pub chunk_sees : (sender : ℕ) (c : Unit × R) → Sender f ph0 sender (Chunk (record_at z.unit (c ∷ [])))
+        → SeesRow (Row sender (Has_chunk c)) (share_does f (Chunk (record_at z.unit (c ∷ []))) ph0 q0)
+    chunk_sees sender c from = served _ _ (as_is _ (λ ph. on_shared (words f q0) ph (λ m. true) (record_at z.unit (c ∷ [])))
+        (shared_follows (follow q0) (c ∷ []) (record_at z.unit (c ∷ [])) (syncs_show q0 (c ∷ [])) (λ m. sender == m) (λ m. true) ph0
+        (λ one out. let its : sender ≡ one = cc in sym ((Decides-eqb sender one).1 its))))
+
+    pub synced_sees : (sender : ℕ) → SeesRow (Row sender Is_synced) (share_does f Synced ph0 q0)
+    synced_sees sender = served _ _ (as_is _ (λ ph. on_synced (λ next. waits next q0) (λ did. did) ph) (synced_follows (follow q0) ph0))
+
+    pub packet_sees : (sender p : ℕ) → SeesRow (Row sender (Has_packet p)) (share_does f (Diverted p) ph0 q0)
+    packet_sees sender p = served (s_row S A e sender (Has_packet p)) (waits ph0 (q0 ++ p ∷ []))
+        (record { phase = refl; queue = refl; to_s = refl; to = λ k _. refl })

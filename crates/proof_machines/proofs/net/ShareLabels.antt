@@ -1,10 +1,10 @@
 -- What a unit under a share knows of a share's message: of its own share what the share is, of another's that it has nothing of the unit. It
 -- follows from what holds of all shares (`GlobalAll`).
 use Rattle.proof_machines.proofs.net.Words.{◌≡◌, ℕ, true, false, Some, None, List, [], ◌∷◌, refl, sym, ap, ◌∙◌, subst, arith, if◌then◌else◌, ◌==◌, nat_tests}
-use Rattle.proof_machines.proofs.net.Words.{Decides-eqb, record_at, Each, each_any, Phase, has, Sys, found_each, Disjoint, OfShare, GlobalAll, mine, as_share}
-use Rattle.proof_machines.proofs.net.Words.{ShareMsg, Shared_on, Diverted_on, S_asked, S_install, S_forward, S_get, S_sync, S_chunks, S_shared, S_synced, same}
-use Rattle.proof_machines.proofs.net.Words.{Sharing, OpenShare, find_share, share_taking, WholeWorld, SeeingShare, same_unit-true, either_way, split}
-use Rattle.proof_machines.proofs.net.Words.{false_from_ne_true, Unit}
+use Rattle.proof_machines.proofs.net.Words.{Decides-eqb, record_at, Each, each_any, SharePhase, has, Sys, found_each, Disjoint, OfShare, GlobalAll, mine}
+use Rattle.proof_machines.proofs.net.Words.{as_share, ShareMsg, Shared_on, Diverted_on, S_asked, S_install, S_forward, S_get, S_sync, S_chunks, S_shared}
+use Rattle.proof_machines.proofs.net.Words.{S_synced, same, Sharing, OpenShare, find_share, share_taking, WholeWorld, SeeingShare, same_unit-true, either_way}
+use Rattle.proof_machines.proofs.net.Words.{split, false_from_ne_true, Unit}
 use Rattle.proof_machines.proofs.net.ShareRows.{taking_each, taking_found}
 
 module _ {R : Type 0} (S : Sys R) (A : Sharing S) (z : SeeingShare) where
@@ -27,7 +27,7 @@ module _ {R : Type 0} (S : Sys R) (A : Sharing S) (z : SeeingShare) where
       (λ _. λ here. let same_is : x ≡ e = cc in let never : false ≡ true = sym off ∙ subst (λ y. S.takes y.filter v ≡ true) (sym same_is) on in cc)
       (λ _. λ there. takes_some es n e v there on) is)
 
-  module _ (w : WholeWorld S A) (g : GlobalAll S A w) (covered : S.takes z.filter z.unit ≡ true) (ph : Phase) (q : List ℕ)
+  module _ (w : WholeWorld S A) (g : GlobalAll S A w) (covered : S.takes z.filter z.unit ≡ true) (ph : SharePhase) (q : List ℕ)
       (there : find_share w.shares z.num ≡ Some (as_share S A z ph q)) where
     pub own_is : (n : ℕ) (e : OpenShare) → find_share w.shares n ≡ Some e → (n == z.num) ≡ true → e ≡ as_share S A z ph q
     own_is n e is on =

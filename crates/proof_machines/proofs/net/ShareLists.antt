@@ -3,7 +3,7 @@ use Rattle.std.proofs.Common.{◌≡◌, ℕ, Bool, true, false, Some, None, Lis
 use Rattle.std.specs.Prelude.{if◌then◌else◌, ◌==◌}
 use Rattle.std.proofs.lemmas.Bool.Decides.{Decides-eqb}
 use Rattle.proof_machines.proofs.unit.Labels.{Each}
-use Rattle.proof_machines.proofs.share.Share.{Phase}
+use Rattle.copy_share.specs.declared.share_phase.SharePhase.{SharePhase}
 use Rattle.proof_machines.proofs.net.Shares.{OpenShare, find_share, set_share}
 use Rattle.proof_machines.proofs.Tests.{split, by_if}
 
@@ -34,7 +34,7 @@ found_each P (x ∷ es) n e h is = split (x.num == n) (λ b. (if b then Some x e
 pub found_own : (es : List OpenShare) (n : ℕ) (e : OpenShare) → find_share es n ≡ Some e → find_share es e.num ≡ Some e
 found_own es n e is = let same : e.num ≡ n = (Decides-eqb e.num n).0 (found_num es n e is) in subst (λ k. find_share es k ≡ Some e) (sym same) is
 
-pub each_set_share : (P : OpenShare → Type 0) (n : ℕ) (ph : Phase) (q : List ℕ) (es : List OpenShare) (e : OpenShare) → find_share es n ≡ Some e
+pub each_set_share : (P : OpenShare → Type 0) (n : ℕ) (ph : SharePhase) (q : List ℕ) (es : List OpenShare) (e : OpenShare) → find_share es n ≡ Some e
     → P (record e { phase = ph; queue = q }) → Each P es → Each P (set_share n ph q es)
 each_set_share P n ph q [] e is new h = tt
 each_set_share P n ph q (x ∷ es) e is new h = split (x.num == n)
@@ -45,7 +45,7 @@ each_set_share P n ph q (x ∷ es) e is new h = split (x.num == n)
 itself : (e : OpenShare) → SameShare e e
 itself e = record { num = refl; home = refl; members = refl; filter = refl }
 
-changed : (e : OpenShare) (ph : Phase) (q : List ℕ) → SameShare (record e { phase = ph; queue = q }) e
+changed : (e : OpenShare) (ph : SharePhase) (q : List ℕ) → SameShare (record e { phase = ph; queue = q }) e
 changed e ph q = record { num = refl; home = refl; members = refl; filter = refl }
 
 -- a share found in a list
@@ -55,7 +55,7 @@ pub record Found (es : List OpenShare) (k : ℕ) (e : OpenShare) : Type 0 where
   pub same : SameShare share e
 
 -- after a change the same shares are found
-pub find_set : (n : ℕ) (ph : Phase) (q : List ℕ) (es : List OpenShare) (k : ℕ) (e : OpenShare) → find_share es k ≡ Some e → Found (set_share n ph q es) k e
+pub find_set : (n : ℕ) (ph : SharePhase) (q : List ℕ) (es : List OpenShare) (k : ℕ) (e : OpenShare) → find_share es k ≡ Some e → Found (set_share n ph q es) k e
 find_set n ph q [] k e is = cc
 find_set n ph q (x ∷ es) k e is = by_if (λ r. Found r k e) (x.num == n) (first (x.num == k) refl is)
     (later (x.num == k) (λ there. find_set n ph q es k e there) refl is)
@@ -76,7 +76,7 @@ find_set n ph q (x ∷ es) k e is = by_if (λ r. Found r k e) (x.num == n) (firs
     later false more on there = let f = more there in record { share = f.share; found = rw on f.found; same = f.same }
 
 -- and no others
-pub set_find : (n : ℕ) (ph : Phase) (q : List ℕ) (es : List OpenShare) (k : ℕ) (e : OpenShare) → find_share (set_share n ph q es) k ≡ Some e → Found es k e
+pub set_find : (n : ℕ) (ph : SharePhase) (q : List ℕ) (es : List OpenShare) (k : ℕ) (e : OpenShare) → find_share (set_share n ph q es) k ≡ Some e → Found es k e
 set_find n ph q [] k e is = cc
 set_find n ph q (x ∷ es) k e is = split (x.num == n)
     (λ a. find_share (if a then record x { phase = ph; queue = q } ∷ es else x ∷ set_share n ph q es) k ≡ Some e → Found (x ∷ es) k e)

@@ -1,9 +1,11 @@
 -- What an open share is told by a message, and that its row keeps and sends nothing but what it was told.
-use Rattle.proof_machines.proofs.net.Words.{◌≡◌, ℕ, true, false, Option, Some, None, List, [], ◌∷◌, refl, subst, if◌then◌else◌, ◌==◌, option_map, Chunks}
-use Rattle.proof_machines.proofs.net.Words.{M_fenced, Each, each-append, Phase, Fencing, Getting, Setting, Idle, Out, Syncing, self, Mv, Sys, EachSent}
-use Rattle.proof_machines.proofs.net.Words.{AreNumbersApart, found_own, Any, Old, New, Diverted_on, S_forward, S_get, S_sync, S_chunks, S_shared, S_synced}
-use Rattle.proof_machines.proofs.net.Words.{Sharing, OpenShare, find_share, share_taking, Told, Is_fenced, Has_chunks, Has_chunk, Is_synced, Has_packet, syncs}
-use Rattle.proof_machines.proofs.net.Words.{ShareTurn, s_row, s_served, share_row, told_by, SharesStep, by_share, split, by_if, Unit}
+use Rattle.proof_machines.proofs.net.Words.{◌≡◌, ℕ, true, false, Option, Some, None, List, [], ◌∷◌, map, refl, subst, if◌then◌else◌, ◌==◌, option_map}
+use Rattle.proof_machines.proofs.net.Words.{Chunks, M_fenced, Each, each-append, SharePhase, Idle, without_number, self, Mv, Sys, EachSent, AreNumbersApart}
+use Rattle.proof_machines.proofs.net.Words.{found_own, Any, Old, New, Diverted_on, S_forward, S_get, S_sync, S_chunks, S_shared, S_synced, Sharing, OpenShare}
+use Rattle.proof_machines.proofs.net.Words.{find_share, share_taking, Told, Is_fenced, Has_chunks, Has_chunk, Is_synced, Has_packet, ShareTurn, share_words}
+use Rattle.proof_machines.proofs.net.Words.{s_row, share_row, told_by, SharesStep, by_share, split, by_if, Unit}
+use Rattle.copy_share.specs.ShareTable.{Words, service_if_idle}
+use Rattle.proof_machines.proofs.share.TableViews.{Follow, fenced_follows, chunks_follows, shared_follows, synced_follows}
 use Rattle.proof_machines.proofs.net.NewMessages.{each_sent_append}
 
 module _ {R : Type 0} (S : Sys R) (A : Sharing S) where
@@ -73,28 +75,33 @@ module _ {R : Type 0} (S : Sys R) (A : Sharing S) where
     abbrev pub Keeps : ShareTurn R → Type 0
     Keeps d = Each Q d.queue × EachSent SentBy d.sends
 
-    syncs_by : (j : ℕ) (cs : Chunks R) (ms : List ℕ) → C cs → EachSent SentBy (syncs e.num e.home j cs ms)
-    syncs_by j cs [] c = tt
-    syncs_by j cs (m ∷ ms) c = by_if (EachSent SentBy) (m == j) (syncs_by j cs ms c) ((refl, c, refl), syncs_by j cs ms c)
+    syncs_by : (cs : Chunks R) → C cs → (ms : List ℕ) → EachSent SentBy (map (λ m. (m, New (S_sync e.num (m == e.home) cs))) ms)
+    syncs_by cs c [] = tt
+    syncs_by cs c (m ∷ ms) = ((refl, c, refl), syncs_by cs c ms)
 
-    row_by : (sender : ℕ) (told : Told R) (ph : Phase) (q : List ℕ) → ToldOf told → Each Q q → Keeps (s_row S A e sender told ph q)
-    row_by sender Is_fenced Fencing q t h =
-        by_if Keeps (sender == e.home) (h, ((refl, refl, refl), tt)) (h, tt)
-    row_by sender (Has_chunks cs) Getting q t h = by_if Keeps (sender == e.home) (h, syncs_by e.home cs e.members t) (h, tt)
-    row_by sender (Has_chunk c) (Out m) q t h = by_if Keeps (sender == m) (h, syncs_by m (c ∷ []) e.members t) (h, tt)
-    row_by sender Is_synced (Setting left) q t h = (h, tt)
-    row_by sender Is_synced (Syncing left) q t h = (h, tt)
-    row_by sender (Has_packet p) ph q t h = (each-append Q q (p ∷ []) h (t, tt), tt)
-    row_by sender told ph q t h = (h, tt)
+    module _ (h : Each Q e.queue) where
+      abbrev w : Words ℕ (Chunks R) (ShareTurn R) (ShareTurn R)
+      w = share_words S A e e.queue
 
-    served_by : (ph : Phase) (q : List ℕ) (xs : List (ℕ × Any R)) → Each Q q → EachSent SentBy xs → Keeps (s_served S A e ph q xs)
-    served_by Idle (p ∷ q) xs h s = (
-      h.1,
-      each_sent_append SentBy xs ((0, New (S_forward e.num (A.member e.members p == e.home) p (A.member e.members p))) ∷ []) s
-          ((refl, h.0, refl, refl), tt),
-    )
-    served_by ph q xs h s = (h, s)
+      follow : Follow w w (λ m. m) (λ d _. Keeps d)
+      follow = record { home = refl; others = λ one. refl; nothing = λ ph. (h, tt); get = (h, ((refl, refl, refl), tt)); done = λ k. k }
+
+      row_by : (sender : ℕ) (told : Told R) → ToldOf told → Keeps (s_row S A e sender told)
+      row_by sender Is_fenced t = by_if Keeps (sender == e.home) (fenced_follows follow e.phase) (h, tt)
+      row_by sender (Has_chunks cs) t = by_if Keeps (sender == e.home)
+          (chunks_follows follow cs cs (λ one ph. (h, syncs_by cs t (without_number e.members one))) e.phase) (h, tt)
+      row_by sender (Has_chunk c) t = shared_follows follow (c ∷ []) (c ∷ []) (λ one ph. (h, syncs_by (c ∷ []) t (without_number e.members one)))
+          (λ m. sender == m) (λ m. sender == m) e.phase (λ one _. refl)
+      row_by sender Is_synced t = synced_follows follow e.phase
+      row_by sender (Has_packet p) t = (each-append Q e.queue (p ∷ []) h (t, tt), tt)
+
+    served_by : (ph : SharePhase) (q : List ℕ) → Each Q q → Keeps (service_if_idle (share_words S A e q) ph q)
+    served_by Idle (p ∷ q) h = (h.1, ((refl, h.0, refl, refl), tt))
+    served_by ph q h = (h, tt)
 
     pub share_row_by : (sender : ℕ) (told : Told R) → ToldOf told → Each Q e.queue → Keeps (share_row S A e sender told)
     share_row_by sender told t h =
-        let k = row_by sender told e.phase e.queue t h in let r = s_row S A e sender told e.phase e.queue in served_by r.phase r.queue r.sends k.0 k.1
+        let r = s_row S A e sender told in
+        let k = row_by h sender told t in
+        let next = served_by r.phase r.queue k.0 in
+        (next.0, each_sent_append SentBy r.sends (service_if_idle (share_words S A e r.queue) r.phase r.queue).sends k.1 next.1)

@@ -3,10 +3,10 @@
 use Rattle.proof_machines.proofs.net.Words.{◌≡◌, ℕ, ◌≤◌, Bool, true, false, Option, Some, None, List, [], ◌∷◌, ◌⊎◌, inl, inr, refl, sym, ap, ◌∙◌, subst, arith}
 use Rattle.proof_machines.proofs.net.Words.{if◌then◌else◌, ◌==◌, option_map, nat_tests, Decides-eqb, record_at, M_fenced, M_install, M_fence_to, Op, where_true}
 use Rattle.proof_machines.proofs.net.Words.{add, sent_for, Each, Carry, Fence, Shared, Diverted, Install, Forward, Get, Sync, Fenced, Chunk, Synced, Stray}
-use Rattle.proof_machines.proofs.net.Words.{UnitShare, Phase, has, waits, share_does, IsShare, Filter, In_packet, Carry_on, Pass_on, Fence_on, Mv, Sys, Open}
-use Rattle.proof_machines.proofs.net.Words.{find_op, row, filter_for, wrap, found, numbered, num_of, EachSent, found_num, GlobalAll, mine, unit_share, fit}
-use Rattle.proof_machines.proofs.net.Words.{move_seen, old_seen, new_seen, share_seen, share_items, as_share, Any, Old, New, Shared_on, Diverted_on, S_install}
-use Rattle.proof_machines.proofs.net.Words.{S_forward, S_get, S_sync, S_chunks, S_shared, S_synced, same, Sharing, OpenShare, find_share, set_share}
+use Rattle.proof_machines.proofs.net.Words.{UnitShare, SharePhase, has, waits, share_does, IsShare, Filter, In_packet, Carry_on, Pass_on, Fence_on, Mv, Sys}
+use Rattle.proof_machines.proofs.net.Words.{Open, find_op, row, filter_for, wrap, found, numbered, num_of, EachSent, found_num, GlobalAll, mine, unit_share}
+use Rattle.proof_machines.proofs.net.Words.{fit, move_seen, old_seen, new_seen, share_seen, share_items, as_share, Any, Old, New, Shared_on, Diverted_on}
+use Rattle.proof_machines.proofs.net.Words.{S_install, S_forward, S_get, S_sync, S_chunks, S_shared, S_synced, same, Sharing, OpenShare, find_share, set_share}
 use Rattle.proof_machines.proofs.net.Words.{share_taking, Told, Is_fenced, Has_chunks, Has_chunk, Is_synced, Has_packet, share_row, told_by, SharesStep}
 use Rattle.proof_machines.proofs.net.Words.{by_share, WholeWorld, old_step, SeeingShare, same_unit-true, split, false_from_ne_true}
 use Rattle.proof_machines.proofs.unit.Real
@@ -14,12 +14,12 @@ use Rattle.proof_machines.proofs.share.Share.{Item, Item.Chunks, ControllerTurn}
 use Rattle.proof_machines.proofs.net.Ctrl.{each_found}
 use Rattle.proof_machines.proofs.net.RowNumbers.{OfRow, SentOf, row_numbers}
 use Rattle.proof_machines.proofs.net.ShareRows.{ToldOf, SentBy, share_row_by, taking_found}
-use Rattle.proof_machines.proofs.net.OnShareLinks.{Sender, IdleEmpty}
+use Rattle.proof_machines.proofs.net.OnShareLinks.{Sender}
 use Rattle.proof_machines.proofs.net.ShareLabels.{taking_own, taking_other, queue_other}
 use Rattle.proof_machines.proofs.net.MemberMoves.{Unseen}
 use Rattle.proof_machines.proofs.net.OwnShare.{SeesRow, fenced_sees, chunks_sees, chunk_sees, synced_sees, packet_sees}
 
-pub found_set : (n : ℕ) (ph : Phase) (q : List ℕ) (es : List OpenShare) (e : OpenShare) → find_share es n ≡ Some e
+pub found_set : (n : ℕ) (ph : SharePhase) (q : List ℕ) (es : List OpenShare) (e : OpenShare) → find_share es n ≡ Some e
     → find_share (set_share n ph q es) n ≡ Some (record e { phase = ph; queue = q })
 found_set n ph q [] e is = cc
 found_set n ph q (x ∷ es) e is = split (x.num == n) (λ b. (if b then Some x else find_share es n) ≡ Some e
@@ -28,7 +28,8 @@ found_set n ph q (x ∷ es) e is = split (x.num == n) (λ b. (if b then Some x e
     let same_is : x ≡ e = cc in let change : OpenShare → Option OpenShare = λ y. Some (record y { phase = ph; queue = q }) in rw on (ap change same_is))
     (λ off there. rw off (found_set n ph q es e there)) is
 
-pub found_set_other : (n : ℕ) (ph : Phase) (q : List ℕ) (es : List OpenShare) (k : ℕ) → (n == k) ≡ false → find_share (set_share n ph q es) k ≡ find_share es k
+pub found_set_other : (n : ℕ) (ph : SharePhase) (q : List ℕ) (es : List OpenShare) (k : ℕ) → (n == k) ≡ false
+    → find_share (set_share n ph q es) k ≡ find_share es k
 found_set_other n ph q [] k off = refl
 found_set_other n ph q (x ∷ es) k off = split (x.num == n) (λ b. find_share (if b then record x { phase = ph; queue = q } ∷ es else x ∷ set_share n ph q es) k
     ≡ (if x.num == k then Some x else find_share es k))
@@ -45,12 +46,12 @@ module _ {R : Type 0} (S : Sys R) (A : Sharing S) (z : SeeingShare) where
     pub to_s : share_items S A z 0 (sent_for 0 s.sends) ≡ d.to_s
     pub to : (k : ℕ) → (k == 0) ≡ false → share_items S A z k (sent_for k s.sends) ≡ d.to k
 
-  abbrev pub share_item : Phase → List ℕ → Option (Item R) → ControllerTurn R
+  abbrev pub share_item : SharePhase → List ℕ → Option (Item R) → ControllerTurn R
   share_item ph q None = waits ph q
   share_item ph q (Some it) = share_does f it ph q
 
   -- the sender of what is seen
-  abbrev pub SenderIf : Phase → ℕ → Option (Item R) → Type 0
+  abbrev pub SenderIf : SharePhase → ℕ → Option (Item R) → Type 0
   SenderIf ph p None = Unit {0}
   SenderIf ph p (Some it) = Sender f ph p it
 
@@ -70,7 +71,7 @@ module _ {R : Type 0} (S : Sys R) (A : Sharing S) (z : SeeingShare) where
       (λ _. another_view e off k xs h.1)
 
   module _ (is : IsShare f) (insts : (k : ℕ) → has z.members k ≡ true → 2 ≤ k) (w : WholeWorld S A) (g : GlobalAll S A w) (covered : S.takes z.filter z.unit
-      ≡ true) (ph : Phase) (q : List ℕ) (there : find_share w.shares z.num ≡ Some (as_share S A z ph q)) (empty : IdleEmpty f ph q) (p : ℕ) where
+      ≡ true) (ph : SharePhase) (q : List ℕ) (there : find_share w.shares z.num ≡ Some (as_share S A z ph q)) (p : ℕ) where
     abbrev es : List OpenShare
     es = w.shares
 
@@ -162,7 +163,7 @@ module _ {R : Type 0} (S : Sys R) (A : Sharing S) (z : SeeingShare) where
     move_sees : (h : Filter) (m : Real.Msg R) → SenderIf ph p (move_seen S A z m)
         → Sees_share (by_share S A es p (told_by S A es (Old (Mv h m)))) (share_item ph q (move_seen S A z m))
     move_sees h (M_fenced n) from =
-        by_number n Is_fenced Fenced (λ on. fenced_sees S A z is insts ph q p empty (of_sender (n == z.num) Fenced on from)) (λ _. tt)
+        by_number n Is_fenced Fenced (λ on. fenced_sees S A z is insts ph q p (of_sender (n == z.num) Fenced on from)) (λ _. tt)
     move_sees h (M_install n a b) from = quiet_if (n == z.num) Stray refl
     move_sees h (M_fence_to n to) from = quiet_if (n == z.num) Stray refl
     move_sees h m from = as_before
@@ -174,10 +175,10 @@ module _ {R : Type 0} (S : Sys R) (A : Sharing S) (z : SeeingShare) where
     share_sees (Old (Pass_on k)) from = quiet_if (mine S A z k) Stray refl
     share_sees (Old (Fence_on n)) from = quiet_if (n == z.num) Fence refl
     share_sees (New (S_chunks n cs)) from = by_number n (Has_chunks cs) (Chunks (record_at z.unit cs))
-        (λ on. chunks_sees S A z is insts ph q p cs empty (of_sender (n == z.num) (Chunks (record_at z.unit cs)) on from)) (λ _. tt)
+        (λ on. chunks_sees S A z is insts ph q p cs (of_sender (n == z.num) (Chunks (record_at z.unit cs)) on from)) (λ _. tt)
     share_sees (New (S_shared n c)) from = by_number n (Has_chunk c) (Chunk (record_at z.unit (c ∷ [])))
-        (λ on. chunk_sees S A z is insts ph q p c empty (of_sender (n == z.num) (Chunk (record_at z.unit (c ∷ []))) on from)) (λ _. tt)
-    share_sees (New (S_synced n)) from = by_number n Is_synced Synced (λ on. synced_sees S A z is insts ph q p empty) (λ _. tt)
+        (λ on. chunk_sees S A z is insts ph q p c (of_sender (n == z.num) (Chunk (record_at z.unit (c ∷ []))) on from)) (λ _. tt)
+    share_sees (New (S_synced n)) from = by_number n Is_synced Synced (λ on. synced_sees S A z is insts ph q p) (λ _. tt)
     share_sees (New (Diverted_on k)) from = diverted k
     share_sees (New (Shared_on n home k)) from =
         quiet_else (n == z.num) k (fit S A z (same home (1 == z.home)) (Shared k)) (quiet_fit (same home (1 == z.home)) (Shared k) refl)

@@ -6,7 +6,8 @@ use Rattle.proof_machines.proofs.unit.Real
 use Rattle.proof_machines.proofs.unit.Real.{record_at, M_fenced, M_install, M_fence_to, where_true}
 use Rattle.proof_machines.proofs.unit.NetViews.{items}
 use Rattle.proof_machines.proofs.share.Share.{Item, Item.Carry, Item.Fence, Item.Shared, Item.Diverted, Item.Install, Item.Forward, Item.Get, Item.Sync}
-use Rattle.proof_machines.proofs.share.Share.{Item.Fenced, Item.Chunks, Item.Chunk, Item.Synced, Item.Stray, UnitShare, Phase, View, has}
+use Rattle.proof_machines.proofs.share.Share.{Item.Fenced, Item.Chunks, Item.Chunk, Item.Synced, Item.Stray, UnitShare, View, has}
+use Rattle.copy_share.specs.declared.share_phase.SharePhase.{SharePhase}
 use Rattle.proof_machines.proofs.net.Net.{Msg, Msg.Carry_on, Msg.Pass_on, Msg.Fence_on, Msg.Mv, Sys}
 use Rattle.proof_machines.proofs.net.Shares.{Any, Any.Old, Any.New, ShareMsg, ShareMsg.Shared_on, ShareMsg.Diverted_on, ShareMsg.S_asked, ShareMsg.S_install}
 use Rattle.proof_machines.proofs.net.Shares.{ShareMsg.S_forward, ShareMsg.S_get, ShareMsg.S_sync, ShareMsg.S_chunks, ShareMsg.S_shared, ShareMsg.S_synced, same}
@@ -74,7 +75,7 @@ module _ {R : Type 0} (S : Sys R) (A : Sharing S) (z : SeeingShare) where
   own_at w k = own_of (k == z.home) (w.inst k).live (w.standby k)
 
   -- the unit's share at the controller
-  abbrev pub as_share : Phase → List ℕ → OpenShare
+  abbrev pub as_share : SharePhase → List ℕ → OpenShare
   as_share ph q = record { num = z.num; home = z.home; members = z.members; filter = z.filter; phase = ph; queue = q }
 
   pub record ShareHolds (w : WholeWorld S A) (x : View R) : Type 0 where

@@ -1,11 +1,15 @@
 -- The network with shares: its messages, the shares that are open, and the step of each node. Moves are those of `Net`: a whole world is
 -- also one of `Net` (`moves_of`), whose links leave out what shares and copies send.
-use Rattle.std.proofs.Common.{◌≡◌, ℕ, suc, ◌-◌, ◌<◌, ◌≤◌, Bool, true, false, Option, Some, None, List, [], ◌∷◌, ◌++◌, length}
-use Rattle.std.specs.Prelude.{if◌then◌else◌, ◌&&◌, ◌==◌, option_map, not}
+use Rattle.std.proofs.Common.{◌≡◌, ℕ, suc, ◌<◌, ◌≤◌, Bool, true, false, Option, Some, None, List, [], ◌∷◌, ◌++◌, length}
+use Rattle.std.specs.Prelude.{if◌then◌else◌, ◌&&◌, ◌==◌, option_map, not, map}
 use Rattle.std.specs.Option.{option_map_or}
 use Rattle.proof_machines.proofs.unit.Real.{Chunks, record_at, M_fenced, sent_for}
 use Rattle.proof_machines.proofs.share.Share as share
 use Rattle.proof_machines.proofs.share.Stages.{distinct}
+use Rattle.copy_share.specs.declared.share_phase.SharePhase.{SharePhase}
+use Rattle.copy_share.specs.declared.share_phase.SharePhase.TheVariants.{Fencing}
+use Rattle.copy_share.specs.ShareTable as said
+use Rattle.copy_share.specs.ShareTable.{Said, Words, on_fenced, on_chunks, on_shared, on_synced, service_if_idle}
 use Rattle.flow_filter.specs.declared.filter.Filter.{Filter}
 use Rattle.proof_machines.proofs.net.Net.{Msg, Carry_on, Fence_on, Mv, MoveAsked, Sys, NumberedInstance, inst_step, process, Open, ControllerMove, ctrl_step}
 use Rattle.proof_machines.proofs.net.Net.{sw_target, sw_sends, meets_any, new_op, begin_sends, World, links_after, at_node, put}
@@ -72,17 +76,17 @@ pub record OpenShare : Type 0 where
   pub home : ℕ
   pub members : List ℕ
   pub filter : Filter
-  pub phase : share.Phase
+  pub phase : SharePhase
   pub queue : List ℕ
 
 abbrev pub new_share : WantShare → OpenShare
-new_share x = record { num = x.num; home = x.home; members = x.members; filter = x.filter; phase = share.Fencing; queue = [] }
+new_share x = record { num = x.num; home = x.home; members = x.members; filter = x.filter; phase = Fencing; queue = [] }
 
 abbrev pub find_share : List OpenShare → ℕ → Option OpenShare
 find_share [] n = None
 find_share (e ∷ es) n = if e.num == n then Some e else find_share es n
 
-abbrev pub set_share : ℕ → share.Phase → List ℕ → List OpenShare → List OpenShare
+abbrev pub set_share : ℕ → SharePhase → List ℕ → List OpenShare → List OpenShare
 set_share n ph q [] = []
 set_share n ph q (e ∷ es) = if e.num == n then record e { phase = ph; queue = q } ∷ es else e ∷ set_share n ph q es
 
@@ -100,44 +104,51 @@ pub data Told (R : Type 0) : Type 0 where
   Has_packet : ℕ → Told R
 
 pub record ShareTurn (R : Type 0) : Type 0 where
-  pub phase : share.Phase
+  pub phase : SharePhase
   pub queue : List ℕ
   pub sends : List (ℕ × Any R)
 
 -- a Sync to each member but one, in order
 abbrev pub syncs : {R : Type 0} → ℕ → ℕ → ℕ → Chunks R → List ℕ → List (ℕ × Any R)
-syncs n home j cs [] = []
-syncs n home j cs (m ∷ ms) = if m == j then syncs n home j cs ms else (m, New (S_sync n (m == home) cs)) ∷ syncs n home j cs ms
+syncs n home j cs members = map (λ m. (m, New (S_sync n (m == home) cs))) (share.without_number members j)
+
+-- what a row of a share says, as messages with their receivers
+abbrev pub share_says : {R : Type 0} → OpenShare → Said ℕ (Chunks R) → List (ℕ × Any R)
+share_says e said.Nothing = []
+share_says e said.Get = (e.home, New (S_get e.num e.filter)) ∷ []
+share_says e (said.Sync one cs) = syncs e.num e.home one cs e.members
+share_says e (said.Forward to p) = (0, New (S_forward e.num (to == e.home) p to)) ∷ []
 
 module _ {R : Type 0} (S : Sys R) (A : Sharing S) where
-  -- As the controller's table has it: the row by sender and message, and then the next packet is served where that may be. proof_machines's
-  -- `share_does` is the two in one.
-  abbrev pub s_goes : share.Phase → List ℕ → List (ℕ × Any R) → ShareTurn R
+  abbrev pub s_goes : SharePhase → List ℕ → List (ℕ × Any R) → ShareTurn R
   s_goes ph q xs = record { phase = ph; queue = q; sends = xs }
 
-  abbrev pub s_left : (ℕ → share.Phase) → ℕ → List ℕ → List (ℕ × Any R) → ShareTurn R
-  s_left ph left q xs = s_goes (if left == 0 then share.Idle else ph left) q xs
+  -- the words of a share's table, with the queue
+  abbrev pub share_words : OpenShare → List ℕ → Words ℕ (Chunks R) (ShareTurn R) (ShareTurn R)
+  share_words e q = record {
+    home = e.home;
+    others = λ one. length (share.without_number e.members one);
+    member = A.member e.members;
+    next = λ ph says. s_goes ph q (share_says e says);
+    done = λ turn. turn;
+    keeps = λ turn. turn;
+    stores = λ left turn. record turn { queue = left };
+  }
 
-  -- told first, so that what isn't named computes in every phase
-  abbrev pub s_row : OpenShare → ℕ → Told R → share.Phase → List ℕ → ShareTurn R
-  s_row e sender Is_fenced share.Fencing q =
-      if sender == e.home then s_goes share.Getting q ((e.home, New (S_get e.num e.filter)) ∷ []) else s_goes share.Fencing q []
-  s_row e sender (Has_chunks cs) share.Getting q = if sender == e.home
-      then s_left share.Setting (length (share.without_number e.members e.home)) q (syncs e.num e.home e.home cs e.members) else s_goes share.Getting q []
-  s_row e sender (Has_chunk c) (share.Out m) q = if sender == m
-      then s_left share.Syncing (length (share.without_number e.members m)) q (syncs e.num e.home m (c ∷ []) e.members) else s_goes (share.Out m) q []
-  s_row e sender Is_synced (share.Setting left) q = s_left share.Setting (left - 1) q []
-  s_row e sender Is_synced (share.Syncing left) q = s_left share.Syncing (left - 1) q []
-  s_row e sender (Has_packet p) ph q = s_goes ph (q ++ p ∷ []) []
-  s_row e sender told ph q = s_goes ph q []
+  -- the row by sender and message
+  abbrev pub s_row : OpenShare → ℕ → Told R → ShareTurn R
+  s_row e sender Is_fenced = if sender == e.home then on_fenced (share_words e e.queue) e.phase else s_goes e.phase e.queue []
+  s_row e sender (Has_chunks cs) = if sender == e.home then on_chunks (share_words e e.queue) e.phase cs else s_goes e.phase e.queue []
+  s_row e sender (Has_chunk c) = on_shared (share_words e e.queue) e.phase (λ m. sender == m) (c ∷ [])
+  s_row e sender Is_synced = on_synced (λ ph. s_goes ph e.queue []) (λ turn. turn) e.phase
+  s_row e sender (Has_packet p) = s_goes e.phase (e.queue ++ p ∷ []) []
 
-  abbrev pub s_served : OpenShare → share.Phase → List ℕ → List (ℕ × Any R) → ShareTurn R
-  s_served e share.Idle (p ∷ q) xs =
-      s_goes (share.Out (A.member e.members p)) q (xs ++ (0, New (S_forward e.num (A.member e.members p == e.home) p (A.member e.members p))) ∷ [])
-  s_served e ph q xs = s_goes ph q xs
+  -- and then the next packet is served where that may be
+  abbrev pub s_serves : OpenShare → ShareTurn R → ShareTurn R
+  s_serves e r = let next = service_if_idle (share_words e r.queue) r.phase r.queue in record next { sends = r.sends ++ next.sends }
 
   abbrev pub share_row : OpenShare → ℕ → Told R → ShareTurn R
-  share_row e sender told = let r = s_row e sender told e.phase e.queue in s_served e r.phase r.queue r.sends
+  share_row e sender told = s_serves e (s_row e sender told)
 
   -- the share that a message at the controller is for. (The real controller takes a Diverted from the switch alone: label it by its link.)
   abbrev pub told_by : List OpenShare → Any R → Option (OpenShare × Told R)

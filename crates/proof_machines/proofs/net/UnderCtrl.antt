@@ -5,7 +5,7 @@ use Rattle.proof_machines.proofs.net.Words.{Take_back, has, joined, waits, share
 use Rattle.proof_machines.proofs.net.Words.{GlobalAll, share_expect, unit_share, share_seen, share_items, ShareHolds, Any, as_old, Sharing, told_by, SharesStep}
 use Rattle.proof_machines.proofs.net.Words.{by_share, WholeWorld, old_step, whole_ctrl, SeeingShare, split, false_from_ne_true}
 use Rattle.proof_machines.proofs.share.Share.{Item}
-use Rattle.proof_machines.proofs.net.OnShareLinks.{Sender, back_sender, sc_sender, idle_empty}
+use Rattle.proof_machines.proofs.net.OnShareLinks.{Sender, back_sender, sc_sender}
 use Rattle.proof_machines.proofs.net.ShareLinks.{sc_links, back_links, quiet_links, view_after, Goes, Goes.Nothing, Goes.Moves_so}
 use Rattle.proof_machines.proofs.net.MemberMoves.{unseen_view}
 use Rattle.proof_machines.proofs.net.ShareSees.{Sees_share, share_item, SenderIf, share_sees, moves_unseen}
@@ -41,7 +41,7 @@ module _ {R : Type 0} (S : Sys R) (A : Sharing S) (z : SeeingShare) where
         ap (share_items S A z j) (sent_for-append j (as_old (old_step S A w.ops p m).sends) step.sends)
         ∙ items-append (share_seen S A z j) (sent_for j (as_old (old_step S A w.ops p m).sends)) (sent_for j step.sends)
         ∙ ap (λ v. v ++ share_items S A z j (sent_for j step.sends))
-        (unseen_view S A z (old_step S A w.ops p m).sends (moves_unseen S A z is insts w g covered x.phase x.queue h.share (idle_empty f s) p m) j)
+        (unseen_view S A z (old_step S A w.ops p m).sends (moves_unseen S A z is insts w g covered x.phase x.queue h.share p m) j)
 
     no_input : (p == 0) && (1 == 0) ≡ false
     no_input = elim (p == 0) as (λ b. b && false ≡ false) [ true ↦ refl | false ↦ refl ]
@@ -126,4 +126,4 @@ module _ {R : Type 0} (S : Sys R) (A : Sharing S) (z : SeeingShare) where
             | Of_sc head p0 ↦ by_sc it head p0 t
             | Of_back head p0 p1 ↦ by_back it head p0 p1 t
           ]
-        ] refl (share_sees S A z is insts w g covered x.phase x.queue h.share (idle_empty f s) p m (sender_if (share_seen S A z 1 m) heads)) heads
+        ] refl (share_sees S A z is insts w g covered x.phase x.queue h.share p m (sender_if (share_seen S A z 1 m) heads)) heads

@@ -4,7 +4,7 @@ use Rattle.proof_machines.proofs.net.Words.{◌≡◌, ℕ, true, false, Some, N
 use Rattle.proof_machines.proofs.net.Words.{Sys, none_mine, AreNumbersApart, found_each, each_set_share, set_find, Any, Old, New, ShareMsg, Shared_on}
 use Rattle.proof_machines.proofs.net.Words.{Diverted_on, S_asked, S_install, S_forward, S_get, S_sync, S_chunks, S_shared, S_synced, EachNew, as_old, Sharing}
 use Rattle.proof_machines.proofs.net.Words.{OpenShare, find_share, set_share, Told, share_row, told_by, SharesStep, by_share, WholeWorld, old_step, whole_ctrl}
-use Rattle.proof_machines.proofs.net.Words.{same_unit, same_unit_equiv, split, Unit}
+use Rattle.proof_machines.proofs.net.Words.{same_unit, same_unit_equiv, split, Unit, SharePhase}
 use Rattle.proof_machines.proofs.net.NewMessages.{OnNew, EachSentNew, each_new_map, each_sent_map, sent_old_and, new_after, new_head}
 use Rattle.proof_machines.proofs.net.ShareRows.{Tells, told_cases, ToldOf, SentBy, share_row_by}
 
@@ -43,7 +43,7 @@ module _ {R : Type 0} (S : Sys R) (u : Unit) where
       pub links : (i j : ℕ) → (i == 0) && (j == 0) ≡ false → EachNew (NoShare w.shares) (w.link i j)
 
     -- the same shares are found
-    no_share_set : (n : ℕ) (ph : Rattle.proof_machines.proofs.share.Share.Phase) (q : List ℕ) (es : List OpenShare) (m : ShareMsg R) → NoShare es m
+    no_share_set : (n : ℕ) (ph : SharePhase) (q : List ℕ) (es : List OpenShare) (m : ShareMsg R) → NoShare es m
         → NoShare (set_share n ph q es) m
     no_share_set n ph q es (S_chunks k cs) h = λ e is. let f = set_find n ph q es k e is in h f.share f.found
     no_share_set n ph q es (S_asked x) h = tt

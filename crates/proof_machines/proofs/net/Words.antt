@@ -8,6 +8,8 @@ pub use Rattle.std.proofs.lemmas.Cmp.{nat_eq_equiv}
 pub use Rattle.std.proofs.lemmas.Option.{same_Some}
 pub use Rattle.std.specs.Option.{option_map_or}
 pub use Rattle.actor_net.proofs.LinkLemmas.{neither}
+pub use Rattle.copy_share.specs.declared.share_phase.SharePhase.{SharePhase}
+pub use Rattle.copy_share.specs.declared.share_phase.SharePhase.TheVariants.{Fencing, Getting, Setting, Idle, Out, Syncing}
 pub use Rattle.flow_filter.specs.declared.filter.Filter.{Filter}
 pub use Rattle.move_op.specs.Phases.{Streaming, Undoing}
 pub use Rattle.nf_msgs.specs.declared.answer.Answer.{Answer}
@@ -32,20 +34,20 @@ pub use Rattle.proof_machines.proofs.net.ShareViews.{mine, unit_share, move_seen
 pub use Rattle.proof_machines.proofs.net.ShareViews.{share_expect, ShareHolds, own_at}
 pub use Rattle.proof_machines.proofs.net.Shares.{Any, Any.Old, Any.New, ShareMsg, ShareMsg.Shared_on, ShareMsg.S_forward, ShareMsg.S_sync, ShareTurn}
 pub use Rattle.proof_machines.proofs.net.Shares.{ShareMsg.S_shared, olds, as_old, Sharing, OpenShare, Told, Told.Is_fenced, Told.Has_chunks, Told.Has_chunk}
-pub use Rattle.proof_machines.proofs.net.Shares.{Told.Is_synced, Told.Has_packet, syncs, s_row, s_served, told_by, by_share, shared_chunk, member_step}
-pub use Rattle.proof_machines.proofs.net.Shares.{WholeWorld, moves_of, whole_inst, whole_ctrl, whole_switch, begin_move, ShareMsg.S_asked, ShareMsg.S_install}
-pub use Rattle.proof_machines.proofs.net.Shares.{ShareMsg.S_get, ShareMsg.S_chunks, WantShare, new_share, find_share, asks, begin_share, puts_get, keeps}
-pub use Rattle.proof_machines.proofs.net.Shares.{meets_shares, MayShare, ShareMsg.Diverted_on, ShareMsg.S_synced, same, IsSharing, set_share, share_taking}
-pub use Rattle.proof_machines.proofs.net.Shares.{share_row, SharesStep, share_sends, arrive_sends, old_step, whole_input, SeeingShare, MemberTurn, ran_of}
-pub use Rattle.proof_machines.proofs.net.Shares.{EachNew, s_goes, share_target}
+pub use Rattle.proof_machines.proofs.net.Shares.{Told.Is_synced, Told.Has_packet, syncs, s_row, s_serves, share_words, told_by, by_share, shared_chunk}
+pub use Rattle.proof_machines.proofs.net.Shares.{member_step, WholeWorld, moves_of, whole_inst, whole_ctrl, whole_switch, begin_move, ShareMsg.S_asked}
+pub use Rattle.proof_machines.proofs.net.Shares.{ShareMsg.S_install, ShareMsg.S_get, ShareMsg.S_chunks, WantShare, new_share, find_share, asks, begin_share}
+pub use Rattle.proof_machines.proofs.net.Shares.{puts_get, keeps, meets_shares, MayShare, ShareMsg.Diverted_on, ShareMsg.S_synced, same, IsSharing, set_share}
+pub use Rattle.proof_machines.proofs.net.Shares.{share_taking, share_row, SharesStep, share_sends, arrive_sends, old_step, whole_input, SeeingShare, MemberTurn}
+pub use Rattle.proof_machines.proofs.net.Shares.{ran_of, EachNew, s_goes, share_target}
 pub use Rattle.proof_machines.proofs.share.Heads.{to_members, ToMembers, Meets, meets_sw, meets_to}
-pub use Rattle.proof_machines.proofs.share.Lists.{self, has-without, apart_of, cond-same, packets-append, runs-append}
+pub use Rattle.proof_machines.proofs.share.Lists.{self, has-without, apart_of, cond-same, runs-append}
 pub use Rattle.proof_machines.proofs.share.Places.{Grows, placed}
 pub use Rattle.proof_machines.proofs.share.Records.{own_is, done_is, is_live, seen_front}
-pub use Rattle.proof_machines.proofs.share.Share.{Phase, Phase.Fencing, Phase.Getting, Phase.Setting, Phase.Idle, Phase.Out, Phase.Syncing, Item.Carry}
+pub use Rattle.proof_machines.proofs.share.Share.{Item.Carry, serves, said_to}
 pub use Rattle.proof_machines.proofs.share.Share.{Item.Install, Item.Stray, Item.Fence, Item.Forward, has, joined, ShareMachineStep.Take_sc, runs, Item.Fenced}
 pub use Rattle.proof_machines.proofs.share.Share.{member_does, Item.Shared, Item.Diverted, Item.Get, Item.Sync, Item.Chunk, Item.Synced, UnitShare, stepped}
-pub use Rattle.proof_machines.proofs.share.Share.{chunk_of, if_mine, over, only, without_number, nowhere, waits, serve, answers, sync_to, share_does, View}
+pub use Rattle.proof_machines.proofs.share.Share.{chunk_of, if_mine, over, only, without_number, nowhere, waits, sync_to, share_does, View}
 pub use Rattle.proof_machines.proofs.share.Share.{ShareMachineStep, put, ShareMachineStep.Arrive, ShareMachineStep.Take_cs, ShareMachineStep.Take_back, from_sc}
 pub use Rattle.proof_machines.proofs.share.Share.{from_back, ShareMachineStep.Take_sw, ShareMachineStep.Take_to, from_sw, from_to, from_cs}
 pub use Rattle.proof_machines.proofs.share.Stages.{shape, Stage, Turn, Turn.Coming, comes_from, served, Stage.Diverting, Stage.Fence_goes, Stage.Fenced_comes}

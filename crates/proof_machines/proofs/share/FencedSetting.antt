@@ -2,8 +2,12 @@
 use Rattle.std.proofs.Common.{◌≡◌, ℕ, Bool, true, false, cond, not, ◌&&◌, ◌==◌, Option, List, [], ◌∷◌, ◌++◌, length, refl, sym, ap, subst, ◌∙◌, append-nil}
 use Rattle.std.proofs.Common.{arith}
 use Rattle.std.proofs.lemmas.Bool.Decides.{nat_tests}
-use Rattle.proof_machines.proofs.share.Share.{Ran, Item, Item.Get, Item.Sync, Item.Fenced, Item.Chunks, UnitShare, View, Phase, Phase.Setting, put, put_ctrl}
-use Rattle.proof_machines.proofs.share.Share.{waits, serve, answers, sync_to, ShareMachineStep, ShareMachineStep.Arrive, ShareMachineStep.Take_sc}
+use Rattle.copy_share.specs.declared.share_phase.SharePhase.{SharePhase}
+use Rattle.copy_share.specs.declared.share_phase.SharePhase.TheVariants.{Idle, Setting}
+use Rattle.copy_share.specs.ShareTable as said
+use Rattle.std.specs.Prelude.{if◌then◌else◌}
+use Rattle.proof_machines.proofs.share.Share.{Ran, Item, Item.Get, Item.Sync, Item.Fenced, Item.Chunks, UnitShare, View, put, put_ctrl}
+use Rattle.proof_machines.proofs.share.Share.{ControllerTurn, words, serves, ShareMachineStep, ShareMachineStep.Arrive, ShareMachineStep.Take_sc}
 use Rattle.proof_machines.proofs.share.Share.{ShareMachineStep.Take_to, ShareMachineStep.Take_back, has, without_number, after, over, moved, from_to, from_back}
 use Rattle.proof_machines.proofs.share.Stages.{Turn.Going, Turn.Quiet, is_going, goes_to, comes_from, Stage, Stage.Fenced_comes, Stage.Get_goes}
 use Rattle.proof_machines.proofs.share.Stages.{Stage.Chunks_come, Stage.Spreads, shape, IsFront, IsShare, FitsSpread, Behind, brings, Leads}
@@ -77,16 +81,17 @@ module _ {R : Type 0} (f : UnitShare R) where
   }
 
   -- the controller waits for one answer at least
-  pub at_least_one : (s : Stage R) (x : View R) (phase : ℕ → Phase) (left : ℕ) (q : List ℕ) (to : ℕ → List (Item R)) → (left == 0) ≡ false
-      → Leads f s (put_ctrl x (record (waits (phase left) q) { to = to })) [] → Leads f s (put_ctrl x (record (answers f phase left q) { to = to })) []
-  at_least_one s x phase left q to off h = subst (λ b. Leads f s (put_ctrl x (record (cond b (serve f q) (waits (phase left) q)) { to = to })) []) (sym off) h
+  pub at_least_one : IsShare f → (j : ℕ) (s : Stage R) (x : View R) (did : Bool → ControllerTurn R) → Leads f s (put_ctrl x (did false)) []
+      → Leads f s (put_ctrl x (did (length (without_number f.members j) == 0))) []
+  at_least_one is j s x did h = subst (λ b. Leads f s (put_ctrl x (did b)) []) (sym (some_left is j)) h
 
   chunks_arrive : IsShare f → (d : List Ran) (b : ℕ → List Ran) (q v : List ℕ) → ((k : ℕ) → IsFront (b k) d)
       → Leads f (Chunks_come d b q v) (from_back f (shape f (Chunks_come d b q v)) f.home (Chunks (after f d) ∷ [])) []
   chunks_arrive is d b q v h =
       let o = without_number f.members f.home in
-      at_least_one (Chunks_come d b q v) (record (shape f (Chunks_come d b q v)) { back = put (shape f (Chunks_come d b q v)).back f.home [] }) Setting
-      (length o) q (sync_to o (after f d)) (some_left is f.home)
+      let next : SharePhase → ControllerTurn R = λ phase. (words f q).next phase (said.Sync f.home (after f d)) in
+      at_least_one is f.home (Chunks_come d b q v) (record (shape f (Chunks_come d b q v)) { back = put (shape f (Chunks_come d b q v)).back f.home [] })
+      (λ t. serves f (if t then next Idle else next (Setting (length o))))
       (leads f (Spreads true d [] b (after f d) (turn_of o) o (length o) q v)
       (just_sent is f.home (λ k _. rw (append-nil d) (over_front f.F (b k) d (h k))) (λ k. front_more (b k) d [] (h k))
       (λ g. let never : true ≡ false = sym g ∙ ap is_going (turn_self f.members f.home) in cc))

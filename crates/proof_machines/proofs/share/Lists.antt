@@ -1,9 +1,9 @@
 -- Laws of the lists in a stage, of functions of nodes, and of counting those that have yet to answer a Sync.
 use Rattle.std.proofs.Common.{◌≡◌, ℕ, ◌+◌, Bool, true, false, cond, not, ◌&&◌, ◌==◌, Option, None, Some, List, [], ◌∷◌, ◌++◌, length, ◌≤◌, refl, sym, ap, subst}
-use Rattle.std.proofs.Common.{◌∙◌, append_assoc, arith}
+use Rattle.std.proofs.Common.{◌∙◌, arith}
 use Rattle.std.proofs.lemmas.Bool.Decides.{nat_tests, Decides-eqb}
 use Rattle.proof_machines.proofs.unit.Machine.{Steps}
-use Rattle.proof_machines.proofs.share.Share.{Ran, UnitShare, has, without_number, if_mine, mine_in, at_node, runs, over, put}
+use Rattle.proof_machines.proofs.share.Share.{Ran, UnitShare, has, without_number, if_mine, at_node, runs, over, put}
 use Rattle.proof_machines.proofs.share.Stages.{Turn, Turn.Going, Turn.Quiet, is_pending, count, served, packets, IsFront, distinct}
 use Rattle.proof_machines.proofs.Tests.{split}
 
@@ -26,18 +26,6 @@ self n = grind (arith, nat_tests)
 pub runs-append : {R : Type 0} (F : Steps R) (r : Option R) (xs ys : List Ran) → runs F r (xs ++ ys) ≡ runs F (runs F r xs) ys
 runs-append F r [] ys = refl
 runs-append F r (x ∷ xs) ys = runs-append F (Some (F.step r x.0)) xs ys
-
-pub mine_in-append : {R : Type 0} (f : UnitShare R) (xs ys : List ℕ) → mine_in f (xs ++ ys) ≡ mine_in f xs ++ mine_in f ys
-mine_in-append f [] ys = refl
-mine_in-append f (x ∷ xs) ys = ap (λ zs. if_mine f x ++ zs) (mine_in-append f xs ys) ∙ sym (append_assoc (if_mine f x) (mine_in f xs) (mine_in f ys))
-
-pub served-append : {R : Type 0} (f : UnitShare R) (xs ys : List ℕ) → served f (xs ++ ys) ≡ served f xs ++ served f ys
-served-append f [] ys = refl
-served-append f (x ∷ xs) ys = ap (λ zs. (x, f.member_of x) ∷ zs) (served-append f xs ys)
-
-pub packets-append : (xs ys : List Ran) → packets (xs ++ ys) ≡ packets xs ++ packets ys
-packets-append [] ys = refl
-packets-append (x ∷ xs) ys = ap (λ zs. x.0 ∷ zs) (packets-append xs ys)
 
 pub packets-served : {R : Type 0} (f : UnitShare R) (e : List ℕ) → packets (served f e) ≡ e
 packets-served f [] = refl
@@ -73,7 +61,7 @@ over_front {R} F xs ds h =
 pub has-without : (xs : List ℕ) (j k : ℕ) → has (without_number xs j) k ≡ (has xs k && not (k == j))
 has-without [] j k = refl
 has-without (x ∷ xs) j k =
-    split (x == j) (λ b. has (cond b (without_number xs j) (x ∷ without_number xs j)) k ≡ (cond (k == x) true (has xs k) && not (k == j)))
+    split (x == j) (λ b. has (cond (not b) (x ∷ without_number xs j) (without_number xs j)) k ≡ (cond (k == x) true (has xs k) && not (k == j)))
     (λ e. has-without xs j k ∙ (split (k == x) (λ b. (has xs k && not (k == j)) ≡ (cond b true (has xs k) && not (k == j)))
     (λ t.
     let same : (k == j) ≡ true = grind (arith, nat_tests) in rw same (elim (has xs k) as (λ b. (b && false) ≡ false) [ true ↦ refl | false ↦ refl ]))
@@ -85,7 +73,7 @@ has-without (x ∷ xs) j k =
 without_other : (xs : List ℕ) (j : ℕ) → has xs j ≡ false → without_number xs j ≡ xs
 without_other [] j h = refl
 without_other (x ∷ xs) j h =
-    split (j == x) (λ b. cond b true (has xs j) ≡ false → cond (x == j) (without_number xs j) (x ∷ without_number xs j) ≡ x ∷ xs) (λ _ n. cc)
+    split (j == x) (λ b. cond b true (has xs j) ≡ false → cond (not (x == j)) (x ∷ without_number xs j) (without_number xs j) ≡ x ∷ xs) (λ _ n. cc)
     (λ off n. let other : (x == j) ≡ false = grind (arith, nat_tests) in rw other (ap (λ zs. x ∷ zs) (without_other xs j n))) h
 
 pub apart_of : (b c : Bool) → not b && c ≡ true → (b ≡ false) × (c ≡ true)
@@ -96,7 +84,7 @@ pub distinct-without : (xs : List ℕ) (j : ℕ) → distinct xs ≡ true → di
 distinct-without [] j h = refl
 distinct-without (x ∷ xs) j h =
     let a = apart_of (has xs x) (distinct xs) h in
-    split (x == j) (λ b. distinct (cond b (without_number xs j) (x ∷ without_number xs j)) ≡ true) (λ e. distinct-without xs j a.1)
+    split (x == j) (λ b. distinct (cond (not b) (x ∷ without_number xs j) (without_number xs j)) ≡ true) (λ e. distinct-without xs j a.1)
     (λ e. rw (has-without xs j x, distinct-without xs j a.1) (rw a.0 refl))
 
 -- all but one are at most one fewer
@@ -104,7 +92,7 @@ pub length-without : (xs : List ℕ) (j : ℕ) → distinct xs ≡ true → leng
 length-without [] j h = omega arith
 length-without (x ∷ xs) j h =
     let a = apart_of (has xs x) (distinct xs) h in
-    split (x == j) (λ b. length (x ∷ xs) ≤ length (cond b (without_number xs j) (x ∷ without_number xs j)) + 1)
+    split (x == j) (λ b. length (x ∷ xs) ≤ length (cond (not b) (x ∷ without_number xs j) (without_number xs j)) + 1)
     (λ e. let same : x ≡ j = (Decides-eqb x j).0 e in rw (without_other xs j (subst (λ y. has xs y ≡ false) same a.0)) (omega arith))
     (λ _. let shorter = length-without xs j a.1 in omega (arith, shorter))
 

@@ -2,7 +2,7 @@
 -- the queue, and diverted.
 use Rattle.std.proofs.Common.{◌≡◌, ℕ, Bool, true, false, cond, ◌==◌, Option, Some, None, List, [], ◌∷◌, ◌++◌, map, refl, sym, ap, subst, append_assoc}
 use Rattle.std.proofs.Common.{append-nil, arith}
-use Rattle.std.specs.List.{filter_map}
+use Rattle.std.specs.List.{filter_map, flat_map}
 use Rattle.std.proofs.lemmas.Bool.Decides.{nat_tests, Decides-eqb}
 use Rattle.std.proofs.lemmas.List.Elements.{filter_map-append}
 use Rattle.proof_machines.proofs.unit.Lists.{picked_each}
@@ -14,8 +14,7 @@ use Rattle.proof_machines.proofs.Tests.{split}
 
 -- what stands at these nodes, one node after the other
 abbrev pub gather : {X : Type 0} → List ℕ → (ℕ → List X) → List X
-gather [] g = []
-gather (m ∷ ms) g = g m ++ gather ms g
+gather ms g = flat_map g ms
 
 abbrev carry_of : {R : Type 0} → Item R → Option ℕ
 carry_of (Carry p) = Some p

@@ -5,7 +5,8 @@ use Rattle.proof_machines.proofs.share.Share.{Ran, UnitShare, if_mine, after}
 use Rattle.proof_machines.proofs.share.Stages.{Turn, Turn.Going, is_going, is_pending, Stage, Stage.Diverting, Stage.Fence_goes, Stage.Fenced_comes}
 use Rattle.proof_machines.proofs.share.Stages.{Stage.Get_goes, Stage.Chunks_come, Stage.Spreads, Stage.Resting, Stage.Forwards, Stage.Carries}
 use Rattle.proof_machines.proofs.share.Stages.{Stage.Chunk_comes, front, processed, shape, served, IsFront, FitsStage, Behind, Lacks, Live}
-use Rattle.proof_machines.proofs.share.Lists.{cond-same, self, served-append}
+use Rattle.std.proofs.lemmas.List.{map-append}
+use Rattle.proof_machines.proofs.share.Lists.{cond-same, self}
 use Rattle.proof_machines.proofs.share.Setting.{front_same}
 use Rattle.proof_machines.proofs.share.Serving.{took_more}
 use Rattle.proof_machines.proofs.Tests.{split}
@@ -38,7 +39,7 @@ module _ {R : Type 0} (f : UnitShare R) where
       → Lacks f (cond t (with_one d e p true) (d ++ served f e)) (with_one d e p true) (at_member d e p true)
   took_one d e p true = inl refl
   took_one d e p false =
-      inr (p, (rw (served-append f e (p ∷ [])) (sym (append_assoc d (served f e) ((p, f.member_of p) ∷ []))), rw (self (f.member_of p)) refl))
+      inr (p, (rw (map-append _ e (p ∷ [])) (sym (append_assoc d (served f e) ((p, f.member_of p) ∷ []))), rw (self (f.member_of p)) refl))
 
   took : (d : List Ran) (e : List ℕ) (p : ℕ) (t : Bool) → Lacks f (at_member d e p t f.home) (with_one d e p t) (at_member d e p t)
   took d e p true = took_one d e p (f.home == f.member_of p)

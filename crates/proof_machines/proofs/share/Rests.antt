@@ -3,7 +3,8 @@
 use Rattle.std.proofs.Common.{◌≡◌, ℕ, true, false, ◌==◌, Option, List, [], ◌∷◌, ◌++◌, map, refl, sym, ap, ◌∙◌}
 use Rattle.proof_machines.proofs.unit.Rests.{behind_nil}
 use Rattle.proof_machines.proofs.unit.Lists.{cons_nil}
-use Rattle.proof_machines.proofs.share.Share.{Ran, Item, Item.Carry, Item.Fence, Item.Diverted, UnitShare, Phase.Idle, View, has, only}
+use Rattle.proof_machines.proofs.share.Share.{Ran, Item, Item.Carry, Item.Fence, Item.Diverted, UnitShare, View, has, only}
+use Rattle.copy_share.specs.declared.share_phase.SharePhase.TheVariants.{Idle}
 use Rattle.proof_machines.proofs.share.Stages.{Turn, Turn.Going, Turn.Coming, Turn.Quiet, is_pending, goes_to, comes_from, count, Stage, Stage.Fence_goes}
 use Rattle.proof_machines.proofs.share.Stages.{Stage.Fenced_comes, Stage.Get_goes, Stage.Chunks_come, Stage.Spreads, Stage.Resting, Stage.Carries}
 use Rattle.proof_machines.proofs.share.Stages.{Stage.Chunk_comes, front, processed, path, shape, IsShare, FitsStage}

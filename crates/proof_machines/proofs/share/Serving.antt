@@ -1,13 +1,17 @@
 -- Each move from each stage in which a share serves a packet, up to the Sync that it gives.
 use Rattle.std.proofs.Common.{◌≡◌, ℕ, Bool, true, false, cond, ◌==◌, None, List, [], ◌∷◌, ◌++◌, length, inl, inr, refl, sym, ap, append_assoc, append-nil}
-use Rattle.proof_machines.proofs.share.Share.{Ran, Item.Shared, Item.Chunk, UnitShare, Phase.Syncing, put, sync_to, ShareMachineStep, ShareMachineStep.Arrive}
+use Rattle.std.proofs.lemmas.List.{map-append}
+use Rattle.proof_machines.proofs.share.Share.{Ran, Item.Shared, Item.Chunk, UnitShare, put, serves, ShareMachineStep, ShareMachineStep.Arrive}
 use Rattle.proof_machines.proofs.share.Share.{ShareMachineStep.Take_cs, ShareMachineStep.Take_sc, ShareMachineStep.Take_sw, ShareMachineStep.Take_back, has}
-use Rattle.proof_machines.proofs.share.Share.{without_number, if_mine, at_node, runs, after, chunk_of, over, moved, from_sw, from_back}
+use Rattle.proof_machines.proofs.share.Share.{without_number, words, if_mine, at_node, runs, after, chunk_of, over, moved, from_sw, from_back}
+use Rattle.copy_share.specs.declared.share_phase.SharePhase.TheVariants.{Idle, Syncing}
+use Rattle.copy_share.specs.ShareTable.{Sync}
+use Rattle.std.specs.Prelude.{if◌then◌else◌}
 use Rattle.proof_machines.proofs.share.Stages.{Turn, is_pending, Stage.Spreads, Stage.Resting, Stage.Forwards, Stage.Carries, Stage.Chunk_comes, shape, served}
 use Rattle.proof_machines.proofs.share.Stages.{IsFront, IsShare, Behind, brings, Leads}
-use Rattle.proof_machines.proofs.share.Lists.{runs-append, served-append, turn_of, turn_self, served_at}
+use Rattle.proof_machines.proofs.share.Lists.{runs-append, turn_of, turn_self, served_at}
 use Rattle.proof_machines.proofs.share.Setting.{links, orders, at_only, front_same, alike_in, same_but_sc, same_view, leads, leads_same, stays}
-use Rattle.proof_machines.proofs.share.FencedSetting.{sync_goes, none_comes, turns, some_left, just_sent, at_least_one}
+use Rattle.proof_machines.proofs.share.FencedSetting.{sync_goes, none_comes, turns, just_sent, at_least_one}
 use Rattle.proof_machines.proofs.Tests.{split}
 
 module _ {R : Type 0} (f : UnitShare R) where
@@ -29,14 +33,14 @@ module _ {R : Type 0} (f : UnitShare R) where
   -- the member's record and what is done, once it took its packet
   took : (d : List Ran) (e : List ℕ) (p : ℕ)
       → runs f.F (after f (d ++ served f e)) (at_node (f.member_of p) (if_mine f p)) ≡ after f (d ++ served f (e ++ if_mine f p))
-  took d e p = rw (served_at f p, served-append f e (if_mine f p), ← append_assoc d (served f e) (served f (if_mine f p)))
+  took d e p = rw (served_at f p, map-append _ e (if_mine f p), ← append_assoc d (served f e) (served f (if_mine f p)))
       (sym (runs-append f.F None (d ++ served f e) (served f (if_mine f p))))
 
   took_done : (d : List Ran) (e : List ℕ) (p : ℕ) → (d ++ served f e) ++ at_node (f.member_of p) (if_mine f p) ≡ d ++ served f (e ++ if_mine f p)
-  took_done d e p = rw (served_at f p, served-append f e (if_mine f p)) (append_assoc d (served f e) (served f (if_mine f p)))
+  took_done d e p = rw (served_at f p, map-append _ e (if_mine f p)) (append_assoc d (served f e) (served f (if_mine f p)))
 
   pub took_more : (d : List Ran) (e : List ℕ) (p : ℕ) → IsFront (d ++ served f e) (d ++ served f (e ++ if_mine f p))
-  took_more d e p = (served f (if_mine f p), rw (served-append f e (if_mine f p)) (sym (append_assoc d (served f e) (served f (if_mine f p)))))
+  took_more d e p = (served f (if_mine f p), rw (map-append _ e (if_mine f p)) (sym (append_assoc d (served f e) (served f (if_mine f p)))))
 
   -- a value at one place, under a function
   cond-at : {X Y : Type 0} (t : Bool) (g : X → Y) (x y : X) → cond t (g x) (g y) ≡ g (cond t x y)
@@ -73,7 +77,7 @@ module _ {R : Type 0} (f : UnitShare R) where
       → Behind f (d ++ served f e) (d ++ served f (e ++ if_mine f p)) at
   just_took d e p at off =
       split (f.mine p) (λ t. Behind f (d ++ served f e) (d ++ served f (e ++ cond t (p ∷ []) [])) at)
-      (λ _. inr (p, (rw (served-append f e (p ∷ [])) (sym (append_assoc d (served f e) ((p, f.member_of p) ∷ []))), off)))
+      (λ _. inr (p, (rw (map-append _ e (p ∷ [])) (sym (append_assoc d (served f e) ((p, f.member_of p) ∷ []))), off)))
       (λ _. inl (rw (append-nil e) refl))
 
   chunk_arrives : IsShare f → (d : List Ran) (e : List ℕ) (p : ℕ) (q v : List ℕ) → Leads f (Chunk_comes d e p q v)
@@ -82,8 +86,8 @@ module _ {R : Type 0} (f : UnitShare R) where
       let m = f.member_of p in
       let o = without_number f.members m in
       let c = chunk_of f p (after f (d ++ served f (e ++ if_mine f p))) in
-      at_least_one f (Chunk_comes d e p q v) (record (shape f (Chunk_comes d e p q v)) { back = put (shape f (Chunk_comes d e p q v)).back m [] }) Syncing
-      (length o) q (sync_to o c) (some_left f is m)
+      at_least_one f is m (Chunk_comes d e p q v) (record (shape f (Chunk_comes d e p q v)) { back = put (shape f (Chunk_comes d e p q v)).back m [] })
+      (λ b. serves f ((words f q).next (if b then Idle else Syncing (length o)) (Sync m c)))
       (leads f (Spreads false d (e ++ if_mine f p) (λ k. d ++ served f e) c (turn_of o) o (length o) q v)
       (just_sent f is m (λ k _. renews d e p) (λ k. took_more d e p)
       (λ _. just_took d e p (turn_of o) (ap is_pending (turn_self f.members m))))

@@ -1,7 +1,11 @@
 -- The machine of one unit under a strict share: what it sees of the switch, the controller and the members. Nodes are numbers: the
 -- switch is 0, the controller 1, instances are from 2.
-use Rattle.std.proofs.Common.{ℕ, ◌-◌, Bool, true, false, Option, Some, None, List, [], ◌∷◌, ◌++◌, map, length}
-use Rattle.std.specs.Prelude.{if◌then◌else◌, ◌==◌}
+use Rattle.std.proofs.Common.{ℕ, Bool, true, false, Option, Some, None, List, [], ◌∷◌, ◌++◌, map, length}
+use Rattle.std.specs.Prelude.{if◌then◌else◌, ◌==◌, not, filter}
+use Rattle.std.specs.List.{flat_map}
+use Rattle.copy_share.specs.declared.share_phase.SharePhase.{SharePhase}
+use Rattle.copy_share.specs.ShareTable as said
+use Rattle.copy_share.specs.ShareTable.{Said, Words, on_fenced, on_chunks, on_shared, on_synced, service_if_idle}
 use Rattle.proof_machines.proofs.unit.Machine.{Steps}
 
 -- a packet and the node that processed it
@@ -9,8 +13,7 @@ abbrev pub Ran : Type 0
 Ran = ℕ × ℕ
 
 abbrev pub at_node : ℕ → List ℕ → List Ran
-at_node j [] = []
-at_node j (p ∷ ps) = (p, j) ∷ at_node j ps
+at_node j ps = map (λ p. (p, j)) ps
 
 abbrev pub runs : {R : Type 0} → Steps R → Option R → List Ran → Option R
 runs F r [] = r
@@ -51,8 +54,7 @@ has [] k = false
 has (x ∷ xs) k = if k == x then true else has xs k
 
 abbrev pub without_number : List ℕ → ℕ → List ℕ
-without_number [] k = []
-without_number (x ∷ xs) k = if x == k then without_number xs k else x ∷ without_number xs k
+without_number xs k = filter (λ x. not (x == k)) xs
 
 -- the fold of what was processed
 abbrev pub after : {R : Type 0} → UnitShare R → List Ran → Option R
@@ -63,8 +65,7 @@ abbrev pub if_mine : {R : Type 0} → UnitShare R → ℕ → List ℕ
 if_mine f p = if f.mine p then p ∷ [] else []
 
 abbrev pub mine_in : {R : Type 0} → UnitShare R → List ℕ → List ℕ
-mine_in f [] = []
-mine_in f (p ∷ ps) = if_mine f p ++ mine_in f ps
+mine_in f ps = flat_map (if_mine f) ps
 
 -- what the chunk of a packet shows of the unit
 abbrev pub chunk_of : {R : Type 0} → UnitShare R → ℕ → Option R → Option R
@@ -106,45 +107,53 @@ member_does f j r Get = record { own = r; to_c = Chunks r ∷ []; ran = [] }
 member_does f j r (Sync c) = record { own = over c r; to_c = Synced ∷ []; ran = [] }
 member_does f j r item = record { own = r; to_c = []; ran = [] }
 
-pub data Phase : Type 0 where
-  Fencing : Phase
-  Getting : Phase
-  Setting : ℕ → Phase  -- so many have yet to answer, then the share is set up
-  Idle : Phase
-  Out : ℕ → Phase  -- a packet is out at this member
-  Syncing : ℕ → Phase  -- so many have yet to answer, then the next packet is served
-
 -- what the controller did
 pub record ControllerTurn (R : Type 0) : Type 0 where
-  pub phase : Phase
+  pub phase : SharePhase
   pub queue : List ℕ
   pub to_s : List (Item R)
   pub to : ℕ → List (Item R)
 
-abbrev pub waits : {R : Type 0} → Phase → List ℕ → ControllerTurn R
+abbrev pub waits : {R : Type 0} → SharePhase → List ℕ → ControllerTurn R
 waits phase q = record { phase = phase; queue = q; to_s = []; to = nowhere }
-
--- the front of the queue, if there is one, goes to its member
-abbrev pub serve : {R : Type 0} → UnitShare R → List ℕ → ControllerTurn R
-serve f [] = waits Idle []
-serve f (p ∷ q) = record (waits (Out (f.member_of p)) q) { to_s = Forward p (f.member_of p) ∷ [] }
-
--- so many have yet to answer; with none the next packet is served
-abbrev pub answers : {R : Type 0} → UnitShare R → (ℕ → Phase) → ℕ → List ℕ → ControllerTurn R
-answers f phase left q = if left == 0 then serve f q else waits (phase left) q
 
 -- a Sync to each of these
 abbrev pub sync_to : {R : Type 0} → List ℕ → Option R → ℕ → List (Item R)
 sync_to o c k = if has o k then Sync c ∷ [] else []
 
-abbrev pub share_does : {R : Type 0} → UnitShare R → Item R → Phase → List ℕ → ControllerTurn R
-share_does f Fenced Fencing q = record (waits Getting q) { to = only f.home (Get ∷ []) }
-share_does f (Chunks c) Getting q = record (answers f Setting (length (without_number f.members f.home)) q) { to = sync_to (without_number f.members f.home) c }
-share_does f Synced (Setting left) q = answers f Setting (left - 1) q
-share_does f Synced (Syncing left) q = answers f Syncing (left - 1) q
-share_does f (Chunk c) (Out m) q = record (answers f Syncing (length (without_number f.members m)) q) { to = sync_to (without_number f.members m) c }
-share_does f (Diverted p) Idle q = serve f (q ++ p ∷ [])
-share_does f (Diverted p) phase q = waits phase (q ++ p ∷ [])
+-- what a row says to the switch, and to the members
+abbrev pub said_to_switch : {R : Type 0} → Said ℕ (Option R) → List (Item R)
+said_to_switch (said.Forward to p) = Forward p to ∷ []
+said_to_switch says = []
+
+abbrev pub said_to : {R : Type 0} → UnitShare R → Said ℕ (Option R) → ℕ → List (Item R)
+said_to f said.Get = only f.home (Get ∷ [])
+said_to f (said.Sync one c) = sync_to (without_number f.members one) c
+said_to f says = nowhere
+
+-- the words of a share's table, with the queue
+abbrev pub words : {R : Type 0} → UnitShare R → List ℕ → Words ℕ (Option R) (ControllerTurn R) (ControllerTurn R)
+words f q = record {
+  home = f.home;
+  others = λ one. length (without_number f.members one);
+  member = f.member_of;
+  next = λ phase says. record { phase = phase; queue = q; to_s = said_to_switch says; to = said_to f says };
+  done = λ did. did;
+  keeps = λ did. did;
+  stores = λ left did. record did { queue = left };
+}
+
+-- after its row a share serves, and that is said to the switch alone
+abbrev pub serves : {R : Type 0} → UnitShare R → ControllerTurn R → ControllerTurn R
+serves f did = let next = service_if_idle (words f did.queue) did.phase did.queue in record next { to_s = did.to_s ++ next.to_s; to = did.to }
+
+-- the unit sees a packet's chunk come from the member at which the packet is out alone
+abbrev pub share_does : {R : Type 0} → UnitShare R → Item R → SharePhase → List ℕ → ControllerTurn R
+share_does f Fenced phase q = serves f (on_fenced (words f q) phase)
+share_does f (Chunks c) phase q = serves f (on_chunks (words f q) phase c)
+share_does f (Chunk c) phase q = serves f (on_shared (words f q) phase (λ member. true) c)
+share_does f Synced phase q = serves f (on_synced (λ next. waits next q) (λ did. did) phase)
+share_does f (Diverted p) phase q = serves f (waits phase (q ++ p ∷ []))
 share_does f item phase q = waits phase q
 
 -- all that the unit sees
@@ -155,7 +164,7 @@ pub record View (R : Type 0) : Type 0 where
   pub to : ℕ → List (Item R)  -- to an instance
   pub back : ℕ → List (Item R)  -- from an instance to the controller
   pub own : ℕ → Option R  -- a member's record
-  pub phase : Phase
+  pub phase : SharePhase
   pub queue : List ℕ
   pub diverts : Bool  -- whether the switch sends the unit's packets to the controller
   pub done : List Ran

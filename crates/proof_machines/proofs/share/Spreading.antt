@@ -4,7 +4,8 @@ use Rattle.std.proofs.Common.{append-nil, true≢false, arith}
 use Rattle.std.proofs.lemmas.Bool.Decides.{nat_tests, Decides-eqb}
 use Rattle.proof_machines.proofs.share.Share.{Ran, Item, Item.Diverted, Item.Sync, Item.Synced, UnitShare, View, ShareMachineStep, ShareMachineStep.Arrive}
 use Rattle.proof_machines.proofs.share.Share.{ShareMachineStep.Take_sc, ShareMachineStep.Take_to, ShareMachineStep.Take_back, has, if_mine, after, over, put}
-use Rattle.proof_machines.proofs.share.Share.{moved, from_to, from_back, put_ctrl, waits, serve, Phase.Setting, Phase.Syncing}
+use Rattle.proof_machines.proofs.share.Share.{moved, from_to, from_back, put_ctrl, waits, serves}
+use Rattle.copy_share.specs.declared.share_phase.SharePhase.TheVariants.{Setting, Idle, Syncing}
 use Rattle.proof_machines.proofs.share.Stages.{Turn, Turn.Going, Turn.Coming, Turn.Quiet, is_going, is_pending, goes_to, comes_from, count, Stage}
 use Rattle.proof_machines.proofs.share.Stages.{Stage.Spreads, Stage.Resting, Stage.Forwards, shape, served, IsFront, FitsSpread, Behind, brings, Leads}
 use Rattle.proof_machines.proofs.share.Lists.{count-put, count-zero, pending-put}
@@ -142,12 +143,13 @@ module _ {R : Type 0} (f : UnitShare R) where
     }
 
     -- it was the last: the next packet of the queue is served
-    last_answer : (first : Bool) (j : ℕ) → at j ≡ Coming → has o j ≡ true → left ≡ 1 → Leads f (here first) (put_ctrl (answer_taken first j) (serve f q)) []
+    last_answer : (first : Bool) (j : ℕ) → at j ≡ Coming → has o j ≡ true → left ≡ 1
+        → Leads f (here first) (put_ctrl (answer_taken first j) (serves f (waits Idle q))) []
     last_answer first j is there last =
         let off = all_quiet j is there last in
         let to : (k : ℕ) → goes_to c (at k) ++ [] ≡ [] = λ k. append-nil (goes_to c (at k)) ∙ gone_to j is off k in
         elim q as (λ qs. Leads f (Spreads first d e b c at o left qs v)
-        (put_ctrl (record (shape f (Spreads first d e b c at o left qs v)) { back = put (λ k. comes_from (at k)) j [] }) (serve f qs)) []) [
+        (put_ctrl (record (shape f (Spreads first d e b c at o left qs v)) { back = put (λ k. comes_from (at k)) j [] }) (serves f (waits Idle qs))) []) [
           | [] ↦ leads f (Resting d e v) tt (alike_in f (λ k. refl) to (gone_back j off) (λ k _. rw (not_going j is off k) refl) refl) (simp orders)
               (simp orders) (λ k _. rw (not_going j is off k) (front_same n))
           | p ∷ qs ↦ leads f (Forwards d e p qs v) tt (alike_in f (λ k. refl) to (gone_back j off) (λ k _. rw (not_going j is off k) refl) refl)
@@ -157,19 +159,15 @@ module _ {R : Type 0} (f : UnitShare R) where
     last_one : (left - 1 == 0) ≡ true → left ≡ 1
     last_one last = let before = h.some in grind (arith, nat_tests)
 
-    by_left : (first : Bool) (j : ℕ) → at j ≡ Coming → Leads f (here first)
-        (put_ctrl (answer_taken first j) (cond (left - 1 == 0) (serve f q) (waits (cond first (Setting (left - 1)) (Syncing (left - 1))) q))) []
-    by_left first j is =
-        let there = h.sent j (rw is refl) in
-        elim (left - 1 == 0) as (λ t. (left - 1 == 0) ≡ t → Leads f (here first)
-        (put_ctrl (answer_taken first j) (cond t (serve f q) (waits (cond first (Setting (left - 1)) (Syncing (left - 1))) q))) []) [
-          | true ↦ λ last. last_answer first j is there (last_one last)
-          | false ↦ next_answer first j is there
-        ] refl
-
     answered : (first : Bool) (j : ℕ) → at j ≡ Coming → Leads f (here first) (from_back f (shape f (here first)) j (Synced ∷ [])) []
-    answered true j is = by_left true j is
-    answered false j is = by_left false j is
+    answered true j is =
+        let there = h.sent j (rw is refl) in
+        split (left - 1 == 0) (λ t. Leads f (here true) (put_ctrl (answer_taken true j) (serves f (cond t (waits Idle q) (waits (Setting (left - 1)) q)))) [])
+        (λ last. last_answer true j is there (last_one last)) (next_answer true j is there)
+    answered false j is =
+        let there = h.sent j (rw is refl) in
+        split (left - 1 == 0) (λ t. Leads f (here false) (put_ctrl (answer_taken false j) (serves f (waits (cond t Idle (Syncing (left - 1))) q))) [])
+        (λ last. last_answer false j is there (last_one last)) (next_answer false j is there)
 
     taken_to : (first : Bool) (j : ℕ) → Leads f (here first) (moved f (shape f (here first)) (Take_to j)) []
     taken_to first j = elim (at j) as (λ t. at j ≡ t → Leads f (here first) (from_to f (shape f (here first)) j (goes_to c t)) []) [

@@ -2,10 +2,11 @@
 -- what was processed and seen, what arrived, and where the packets wait (`path`).
 use Rattle.std.proofs.Common.{◌≡◌, ℕ, ◌+◌, ◌<◌, Bool, true, false, not, Option, List, [], ◌∷◌, ◌++◌, map, length, ◌⊎◌}
 use Rattle.std.specs.Prelude.{if◌then◌else◌, ◌&&◌, ◌==◌}
+use Rattle.copy_share.specs.declared.share_phase.SharePhase.{SharePhase}
+use Rattle.copy_share.specs.declared.share_phase.SharePhase.TheVariants.{Fencing, Getting, Setting, Idle, Out, Syncing}
 use Rattle.proof_machines.proofs.share.Share.{Ran, Item, Item.Carry, Item.Fence, Item.Shared, Item.Diverted, Item.Install, Item.Forward, Item.Get, Item.Sync}
-use Rattle.proof_machines.proofs.share.Share.{Item.Fenced, Item.Chunks, Item.Chunk, Item.Synced, UnitShare, Phase, Phase.Fencing, Phase.Getting, Phase.Setting}
-use Rattle.proof_machines.proofs.share.Share.{Phase.Idle, Phase.Out, Phase.Syncing, View, ShareMachineStep, ShareMachineStep.Arrive, has, if_mine, mine_in}
-use Rattle.proof_machines.proofs.share.Share.{after, chunk_of, over, only, nowhere}
+use Rattle.proof_machines.proofs.share.Share.{Item.Fenced, Item.Chunks, Item.Chunk, Item.Synced, UnitShare, View, ShareMachineStep, ShareMachineStep.Arrive}
+use Rattle.proof_machines.proofs.share.Share.{has, if_mine, mine_in, after, chunk_of, over, only, nowhere}
 
 -- where a member is with a Sync: it is on its way, the answer is, or neither
 pub data Turn : Type 0 where
@@ -52,8 +53,7 @@ pub data Stage (R : Type 0) : Type 0 where
 
 -- packets, each at its member
 abbrev pub served : {R : Type 0} → UnitShare R → List ℕ → List Ran
-served f [] = []
-served f (p ∷ ps) = (p, f.member_of p) ∷ served f ps
+served f ps = map (λ p. (p, f.member_of p)) ps
 
 -- what a member's record has seen
 abbrev pub front : {R : Type 0} → UnitShare R → Stage R → ℕ → List Ran
@@ -82,8 +82,7 @@ processed f (Carries d e p q v) = d ++ served f e
 processed f (Chunk_comes d e p q v) = d ++ served f (e ++ if_mine f p)
 
 abbrev pub packets : List Ran → List ℕ
-packets [] = []
-packets (d ∷ ds) = d.0 ∷ packets ds
+packets ds = map (λ d. d.0) ds
 
 -- the unit's packets that arrived before the switch diverted: those that were processed, then those that wait
 abbrev pub early : {R : Type 0} → Stage R → List ℕ
@@ -125,7 +124,7 @@ path f (Carries d e p q v) = if_mine f p ++ (mine_in f q ++ mine_in f v)
 path f (Chunk_comes d e p q v) = mine_in f q ++ mine_in f v
 
 -- a view with nothing on its links but what is diverted
-abbrev pub still : {R : Type 0} → Phase → List ℕ → List ℕ → List Ran → (ℕ → Option R) → View R
+abbrev pub still : {R : Type 0} → SharePhase → List ℕ → List ℕ → List Ran → (ℕ → Option R) → View R
 still phase q v d own =
     record { sw = nowhere; sc = map Diverted v; cs = []; to = nowhere; back = nowhere; own = own; phase = phase; queue = q; diverts = true; done = d }
 

@@ -1,5 +1,5 @@
 -- What the controller sends for copies: it asks for records as a copy begins, or for a share, and hands on what came. Nothing else is of a copy.
-use Rattle.proof_outlines.proofs.Words.{◌≡◌, ℕ, Bool, true, false, Option, Some, None, List, [], ◌∷◌, ◌++◌, map, refl, if◌then◌else◌, ◌-◌, ◌==◌, length}
+use Rattle.proof_outlines.proofs.Words.{◌≡◌, ℕ, Bool, true, Option, Some, None, List, [], ◌∷◌, ◌++◌, map, refl, if◌then◌else◌, ◌-◌, ◌==◌}
 use Rattle.proof_outlines.proofs.Words.{filter_map, Filter, flow_of, Chunk, Pass, FullCell, Answer, Command, Order, Msg, switch_node, instance_node, op_of}
 use Rattle.proof_outlines.proofs.Words.{stored_of, with_parcels, source, destination, Operation, CopyPhase, SharePhase, CopyPlan, CopyState, SharePlan}
 use Rattle.proof_outlines.proofs.Words.{ShareState, home, Move, Copy, Share, Turn, turn_of, serving_of, share_of, place_of, ControllerState, Each, each-append}
@@ -9,6 +9,7 @@ use Rattle.copy_share.specs.Copy as copy
 use Rattle.copy_share.specs.Share.{others as members_but}
 use Rattle.copy_share.specs.Share as share
 use Rattle.ctrl_node.specs.Controller as ctrl
+use Rattle.proof_machines.proofs.share.TableViews.{Follow, fenced_follows, chunks_follows, shared_follows, synced_follows}
 use Rattle.proof_outlines.proofs.outline.ControllerWays.{row_by}
 use Rattle.proof_outlines.proofs.outline.MoveRows.{all_sent}
 use Rattle.proof_outlines.proofs.joined.CopyAnswers.{is_uncopied, AreUncopied, no_copy, move_none}
@@ -52,38 +53,18 @@ module _ (P : Msg → Type 0) (others : (m : Msg) → is_uncopied m ≡ true →
   syncs_sent plan [] chunks = tt
   syncs_sent plan (member ∷ members) chunks = (others (Msg.Sync (member == home plan) plan.op chunks) refl, syncs_sent plan members chunks)
 
-  setting_sent : (left : ℕ) (sends : List (ℕ × Msg)) → EachIs sends → EachIs (share.setting left sends).sends
-  setting_sent left sends h = by_if (λ (r : share.ShareRow). EachIs r.sends) (left == 0) h h
-
-  fenced_sent : (plan : SharePlan) (ph : SharePhase) → P (Msg.Get plan.op plan.filter) → EachIs (share.on_fenced plan ph).sends
-  fenced_sent plan SharePhase.Fencing its = (its, tt)
-  fenced_sent plan ph its = tt
-
-  first_sent : (plan : SharePlan) (ph : SharePhase) (chunks : List Chunk) → EachIs (share.on_chunks plan ph chunks).sends
-  first_sent plan SharePhase.Getting chunks =
-      setting_sent (length (members_but plan (home plan))) (share.syncs plan (home plan) chunks) (syncs_sent plan (members_but plan (home plan)) chunks)
-  first_sent plan ph chunks = tt
-
-  shared_sent : (plan : SharePlan) (ph : SharePhase) (port : ℕ) (chunk : Chunk) → EachIs (share.on_shared plan ph port chunk).sends
-  shared_sent plan (SharePhase.Out member) port chunk = by_if (λ (r : share.ShareRow). EachIs r.sends) (port == instance_node member)
-      (syncs_sent plan (members_but plan member) (chunk ∷ []))
-      tt
-  shared_sent plan ph port chunk = tt
-
-  synced_sent : (ph : SharePhase) → EachIs (share.on_synced ph).sends
-  synced_sent (SharePhase.Setting left) = setting_sent (left - 1) [] tt
-  synced_sent (SharePhase.Syncing left) = tt
-  synced_sent ph = tt
+  share_follow : (plan : SharePlan) → P (Msg.Get plan.op plan.filter) → Follow (share.words plan) (share.words plan) (λ m. m) (λ r _. EachIs r.sends)
+  share_follow plan its = record { home = refl; others = λ one. refl; nothing = λ ph. tt; get = (its, tt); done = λ sent. sent }
 
   share_sent : (y : ShareState) (port : ℕ) (m : Msg) → P (Msg.Get y.plan.op y.plan.filter) → EachIs (share.row y port m).sends
-  share_sent y port (Msg.Fenced op) its =
-      elim (port == instance_node (home y.plan)) as (λ b. EachIs (if b then share.on_fenced y.plan y.phase else share.next_phase y.phase []).sends)
-      [ true ↦ fenced_sent y.plan y.phase its | false ↦ tt ]
-  share_sent y port (Msg.Chunks op chunks) its =
-      elim (port == instance_node (home y.plan)) as (λ b. EachIs (if b then share.on_chunks y.plan y.phase chunks else share.next_phase y.phase []).sends)
-      [ true ↦ first_sent y.plan y.phase chunks | false ↦ tt ]
-  share_sent y port (Msg.Shared op chunk) its = shared_sent y.plan y.phase port chunk
-  share_sent y port (Msg.Synced op) its = synced_sent y.phase
+  share_sent y port (Msg.Fenced op) its = by_if (λ (r : share.ShareRow). EachIs r.sends) (port == instance_node (home y.plan))
+      (fenced_follows (share_follow y.plan its) y.phase) tt
+  share_sent y port (Msg.Chunks op chunks) its = by_if (λ (r : share.ShareRow). EachIs r.sends) (port == instance_node (home y.plan))
+      (chunks_follows (share_follow y.plan its) chunks chunks (λ one ph. syncs_sent y.plan (members_but y.plan one) chunks) y.phase) tt
+  share_sent y port (Msg.Shared op chunk) its =
+      shared_follows (share_follow y.plan its) (chunk ∷ []) (chunk ∷ []) (λ one ph. syncs_sent y.plan (members_but y.plan one) (chunk ∷ []))
+      (λ m. port == instance_node m) (λ m. port == instance_node m) y.phase (λ one out. refl)
+  share_sent y port (Msg.Synced op) its = synced_follows (share_follow y.plan its) y.phase
   share_sent y port m its = tt
 
   served_sent : (plan : SharePlan) (ph : SharePhase) (cells : List FullCell) → EachIs (share.service_if_idle plan ph cells).sends

@@ -1,17 +1,18 @@
 -- The controller's step on a message of an open share's number, and on a packet that is put at the end of its queue, is that of the network with
 -- shares.
 use Rattle.proof_outlines.proofs.Words.{◌≡◌, ℕ, false, cond, Option, Some, None, List, [], ◌∷◌, ◌++◌, map, refl, sym, ap, ◌∙◌, subst, append-nil, ◌==◌}
-use Rattle.proof_outlines.proofs.Words.{unwrap_or, Decides-eqb, self, Packet, Site, Semantics, FullCell, stored_of, Answer, Msg, switch_node, ShareState}
-use Rattle.proof_outlines.proofs.Words.{ShareRow, Share, ControllerState, Step, hand_step, queue_step, Sys, Open, find_op, Sharing, OpenShare, find_share}
-use Rattle.proof_outlines.proofs.Words.{set_share, Told, Has_packet, ShareTurn, share_row, by_share, found_num}
+use Rattle.proof_outlines.proofs.Words.{unwrap_or, Decides-eqb, self, Packet, Site, Semantics, FullCell, stored_of, Answer, Msg, switch_node, instance_node}
+use Rattle.proof_outlines.proofs.Words.{ShareState, ShareRow, Share, ControllerState, Step, hand_step, queue_step, Sys, Open, find_op, Sharing, OpenShare}
+use Rattle.proof_outlines.proofs.Words.{find_share, set_share, Told, Has_packet, ShareTurn, share_row, by_share, found_num}
 use Rattle.std.specs.FinMap as finite
 use Rattle.copy_share.specs.Share as real
+use Rattle.proof_machines.proofs.share.TableViews.{map_phase}
 use Rattle.proof_machines.proofs.net.ShareSees.{found_set, found_set_other}
 use Rattle.proof_outlines.proofs.outline.Outline.{number, sys}
 use Rattle.proof_outlines.proofs.outline.InstanceOutline.{filter_map-put}
 use Rattle.proof_outlines.proofs.outline.ControlOutline.{Sees}
 use Rattle.proof_outlines.proofs.whole.WholeOutline.{outline_each, outline_all, sharing}
-use Rattle.proof_outlines.proofs.whole.ShareOutline.{share_phase, SeesShare, ShareFollows, sees_after, rests_served}
+use Rattle.proof_outlines.proofs.whole.ShareOutline.{SeesShare, ShareFollows, sees_after, rests_served}
 use Rattle.proof_outlines.proofs.whole.ShareLeft.{OpenAt, answered, next_share, still_waits, ShareLeaves, handed_leaves, queued_leaves}
 use Rattle.proof_outlines.proofs.whole.OpenShares.{turned_test, but_shares, Table, Elsewhere, SeesAny, OpensAll, opens_at, sees_none, StepFollows}
 
@@ -123,7 +124,7 @@ module _ {R : Type 0} (f : Semantics R) (at : Site) (packet : ℕ → Packet) (p
         let did : ShareTurn R = record { phase = e.phase; queue = e.queue; sends = [] } in
         let none = rests_served s.plan s.phase (stored_of c.store n) sees.rests in
         let follows : ShareFollows f at packet place s.plan (stored_of c.store n) (real.next_phase s.phase []) did = record {
-          phase = ap (λ x. x.phase) sees.is ∙ ap (λ x. share_phase x.phase) (sym none);
+          phase = ap (λ x. x.phase) sees.is ∙ ap (λ x. map_phase instance_node x.phase) (sym none);
           queue = ap (λ x. x.queue) sees.is ∙ ap (λ x. map number (unwrap_or x.stored (stored_of c.store n))) (sym none);
           sends = ap (λ x. outline_all f place x.sends) none;
         } in
