@@ -1,7 +1,7 @@
 -- A unit's own share takes what it is told: the unit sees what the share's machine does (`fenced_sees` to `packet_sees`).
 use Rattle.proof_machines.proofs.net.Words.{◌≡◌, ℕ, ◌-◌, ◌≤◌, Bool, true, false, Some, List, [], ◌∷◌, ◌++◌, length, refl, sym, ap, ◌∙◌, subst, append-nil}
 use Rattle.proof_machines.proofs.net.Words.{arith, if◌then◌else◌, ◌==◌, nat_tests, Decides-eqb, nat_eq_equiv, record_at, where_true, add, sent_for}
-use Rattle.proof_machines.proofs.net.Words.{items-append, sent_for-append, Forward, Get, Sync, Diverted, Fenced, Chunk, Synced, Stray, UnitShare, Phase}
+use Rattle.proof_machines.proofs.net.Words.{filter_map-append, sent_for-append, Forward, Get, Sync, Diverted, Fenced, Chunk, Synced, Stray, UnitShare, Phase}
 use Rattle.proof_machines.proofs.net.Words.{Fencing, Getting, Setting, Idle, Out, Syncing, has, without_number, only, nowhere, waits, serve, answers, sync_to}
 use Rattle.proof_machines.proofs.net.Words.{share_does, distinct, IsShare, self, has-without, apart_of, Sys, mine, unit_share, fit, share_seen, share_items}
 use Rattle.proof_machines.proofs.net.Words.{as_share, Any, New, S_forward, S_get, S_sync, same, Sharing, OpenShare, Told, Is_fenced, Has_chunks, Has_chunk}
@@ -78,7 +78,7 @@ module _ {R : Type 0} (S : Sys R) (A : Sharing S) (z : SeeingShare) (is : IsShar
 
   behind : (k : ℕ) (xs ys : List (ℕ × Any R))
       → share_items S A z k (sent_for k (xs ++ ys)) ≡ share_items S A z k (sent_for k xs) ++ share_items S A z k (sent_for k ys)
-  behind k xs ys = ap (share_items S A z k) (sent_for-append k xs ys) ∙ items-append (share_seen S A z k) (sent_for k xs) (sent_for k ys)
+  behind k xs ys = ap (share_items S A z k) (sent_for-append k xs ys) ∙ filter_map-append (share_seen S A z k) (sent_for k xs) (sent_for k ys)
 
   module _ (ph0 : Phase) (q0 : List ℕ) (xs : List (ℕ × Any R)) (to : ℕ → List (Item R)) (at_0 : share_items S A z 0 (sent_for 0 xs) ≡ [])
       (at_k : (k : ℕ) → (k == 0) ≡ false → share_items S A z k (sent_for k xs) ≡ to k) where

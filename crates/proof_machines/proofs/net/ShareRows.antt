@@ -4,7 +4,6 @@ use Rattle.proof_machines.proofs.net.Words.{M_fenced, Each, each-append, Phase, 
 use Rattle.proof_machines.proofs.net.Words.{AreNumbersApart, found_own, Any, Old, New, Diverted_on, S_forward, S_get, S_sync, S_chunks, S_shared, S_synced}
 use Rattle.proof_machines.proofs.net.Words.{Sharing, OpenShare, find_share, share_taking, Told, Is_fenced, Has_chunks, Has_chunk, Is_synced, Has_packet, syncs}
 use Rattle.proof_machines.proofs.net.Words.{ShareTurn, s_row, s_served, share_row, told_by, SharesStep, by_share, split, by_if, Unit}
-use Rattle.proof_machines.proofs.net.NewMessages.{each_sent_append}
 
 module _ {R : Type 0} (S : Sys R) (A : Sharing S) where
   -- the share that takes a unit is found by its number
@@ -90,7 +89,7 @@ module _ {R : Type 0} (S : Sys R) (A : Sharing S) where
     served_by : (ph : Phase) (q : List ℕ) (xs : List (ℕ × Any R)) → Each Q q → EachSent SentBy xs → Keeps (s_served S A e ph q xs)
     served_by Idle (p ∷ q) xs h s = (
       h.1,
-      each_sent_append SentBy xs ((0, New (S_forward e.num (A.member e.members p == e.home) p (A.member e.members p))) ∷ []) s
+      each-append _ xs ((0, New (S_forward e.num (A.member e.members p == e.home) p (A.member e.members p))) ∷ []) s
           ((refl, h.0, refl, refl), tt),
     )
     served_by ph q xs h s = (h, s)

@@ -59,13 +59,15 @@ pub use Rattle.proof_machines.proofs.unit.Ends.{same_of}
 pub use Rattle.proof_machines.proofs.unit.Kept.{frozen_in, free_in, Kept, lives, on_way, Nowhere, Is_live, On_way, Twice}
 pub use Rattle.proof_machines.proofs.unit.Labels.{Each, Without, Clean, Foreign, SentForeign, StaysClean, from_source_clean, from_destination_clean}
 pub use Rattle.proof_machines.proofs.unit.Labels.{each-append, each_map, each_any, cut_foreign, each_both}
-pub use Rattle.proof_machines.proofs.unit.Lists.{firsts, firsts-append, firsts-on, none_is, never_true, cons_nil}
+pub use Rattle.proof_machines.proofs.unit.Lists.{firsts, firsts-on, none_is, never_true, cons_nil}
 pub use Rattle.proof_machines.proofs.unit.Machine.{At_a, At_b, At_c, Ran, after, State, Item, Put_no, Where, Enable, Stream, Delete, Put, Restore, Fence_to}
 pub use Rattle.proof_machines.proofs.unit.Machine.{ControllerTurn, goes, from_source, from_destination, Over, Pass, Rule, Free, Drops, Buffers, Part, Inst, Did}
 pub use Rattle.proof_machines.proofs.unit.Machine.{inst_does, MachineStep, Take_sa, Take_sb, Take_ca, Take_cb, moved, put_a, put_b, put_c, on, carried, ran_one}
 pub use Rattle.proof_machines.proofs.unit.Machine.{Steps, delete, next, Take_ac, Take_bc, put_ctrl, idle, Passing, Ending, Ended, Freezing, switch_does}
 pub use Rattle.proof_machines.proofs.unit.Machine.{redirected, send_to, Begin, Where as Side, sends as did_sends}
-pub use Rattle.proof_machines.proofs.unit.NetViews.{items, items-append}
+pub use Rattle.std.specs.List.{filter_map}
+pub use Rattle.std.proofs.lemmas.List.{map-append}
+pub use Rattle.std.proofs.lemmas.List.Elements.{filter-append, filter_map-append}
 pub use Rattle.proof_machines.proofs.unit.Pairs.{Nodes, expect, ShownBy, By_sa, By_sb, By_sc, By_ca, By_cb, By_ac, By_bc, By_cc, By_cs, shown_by, after_take}
 pub use Rattle.proof_machines.proofs.unit.Pairs.{a_from_s, a_from_c, b_from_s, b_from_c, c_from_s, nothing_seen, ctrl_from_a, ctrl_from_b, switch_from_c}
 pub use Rattle.proof_machines.proofs.unit.Pairs.{arrives_at}
@@ -76,8 +78,7 @@ pub use Rattle.proof_machines.proofs.unit.Real.{OperationTurn, none_if, add, vie
 pub use Rattle.proof_machines.proofs.unit.Rests.{Silent, none_carried, is_over, exactly}
 pub use Rattle.proof_machines.proofs.unit.Seats.{UnitSeat, seat_shape, seat_all, seat_rests, is_covered, seat_loose, seat_goes_on, covered_stays, seat_allowed}
 pub use Rattle.proof_machines.proofs.unit.Seats.{base_of, Covered, Is_beside, Is_away, seat_path}
-pub use Rattle.proof_machines.proofs.unit.Seen.{NodesDiffer, frame_of, quiet, did_a, did_b, from_source_seen, from_destination_seen, only_mine-append}
-pub use Rattle.proof_machines.proofs.unit.Seen.{sent_for-append}
+pub use Rattle.proof_machines.proofs.unit.Seen.{NodesDiffer, frame_of, quiet, did_a, did_b, from_source_seen, from_destination_seen, sent_for-append}
 pub use Rattle.proof_machines.proofs.unit.SeenInst.{r_put, SeesInstance, r_stream, r_delete, r_restore, parts_of, stream_seen, delete_seen, restore_seen}
 pub use Rattle.proof_machines.proofs.unit.SeenInst.{put_seen}
 pub use Rattle.proof_machines.proofs.unit.Stages.{IsOrderedAs, Allowed, arrived_by, Streams, Laying, Turned, Fenced_a, Ending_b, Turned_loose, Fenced_loose}

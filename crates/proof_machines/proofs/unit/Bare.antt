@@ -1,67 +1,53 @@
 -- A stage without any packet of the unit has no record of it and holds nothing; a step in which no packet comes leaves it so.
 use Rattle.proof_machines.proofs.unit.Words.{◌≡◌, ℕ, ◌+◌, Bool, true, false, Option, Some, None, List, [], ◌∷◌, ◌++◌, map, refl, ap, ◌∙◌, arith, if◌then◌else◌}
-use Rattle.proof_machines.proofs.unit.Words.{◌==◌, option_to_list, Ran, Steps, after, Part, Rule, Free, Drops, Buffers, Item, Carry, Pass, Fence, Enable, Put}
+use Rattle.proof_machines.proofs.unit.Words.{◌==◌, option_to_list, Ran, Steps, after, Rule, Free, Drops, Buffers, Item, Carry, Pass, Fence, Enable, Put}
 use Rattle.proof_machines.proofs.unit.Words.{next, State, MachineStep, firsts, marked, nil_left, nil_right, Stage, At_rest, Streams, Is_wide, shape, path}
 use Rattle.proof_machines.proofs.unit.Words.{all_of, loose, times, Same, IsOrderedAs, Allowed, arrived_by}
+use Rattle.std.specs.List.{list_all}
 use Rattle.std.proofs.lemmas.Bool.Decides.{Decides-eqb}
+use Rattle.std.proofs.lemmas.List.Folds.{list_all-append}
+use Rattle.proof_machines.proofs.Tests.{by_if}
+use Rattle.proof_machines.proofs.unit.Lists.{all_pass}
 use Rattle.proof_machines.proofs.unit.Path.{passes_in, carries, path_of, carry, pass, path_is}
 use Rattle.proof_machines.proofs.unit.Kept.{Kept, Nowhere, Is_live, On_way, Twice, is_kept, lives, on_way, records_on, frozen_in}
 use Rattle.proof_machines.proofs.unit.Steps.{goes_on}
 
 -- what the switch sends to B
-abbrev pub from_switch : {R : Type 0} → List (Item R) → Bool
-from_switch [] = true
-from_switch (Carry p ∷ xs) = from_switch xs
-from_switch (Pass p ∷ xs) = from_switch xs
-from_switch (Fence ∷ xs) = from_switch xs
-from_switch (_ ∷ xs) = false
+abbrev from_switch : {R : Type 0} → Item R → Bool
+from_switch (Carry p) = true
+from_switch (Pass p) = true
+from_switch Fence = true
+from_switch x = false
 
 -- what the controller sends to B
-abbrev pub to_dest : {R : Type 0} → List (Item R) → Bool
-to_dest [] = true
-to_dest (Enable Buffers ∷ xs) = to_dest xs
-to_dest (Put h first ∷ xs) = to_dest xs
-to_dest (_ ∷ xs) = false
+abbrev pub to_dest : {R : Type 0} → Item R → Bool
+to_dest (Enable Buffers) = true
+to_dest (Put h first) = true
+to_dest x = false
 
-abbrev pub fences : {R : Type 0} → List (Item R) → Bool
-fences [] = true
-fences (Fence ∷ xs) = fences xs
-fences (_ ∷ xs) = false
+abbrev pub is_fence : {R : Type 0} → Item R → Bool
+is_fence Fence = true
+is_fence x = false
 
 abbrev pub not_drops : Rule → Bool
 not_drops Drops = false
 not_drops r = true
 
-from_switch-append : {R : Type 0} (xs ys : List (Item R)) → from_switch xs ≡ true → from_switch (xs ++ ys) ≡ from_switch ys
-from_switch-append [] ys e = refl
-from_switch-append (Carry p ∷ xs) ys e = from_switch-append xs ys e
-from_switch-append (Pass p ∷ xs) ys e = from_switch-append xs ys e
-from_switch-append (Fence ∷ xs) ys e = from_switch-append xs ys e
-from_switch-append (x ∷ xs) ys e = cc
+carries_from : (R : Type 0) (l : List ℕ) → list_all from_switch (map (carry {R = R}) l) ≡ true
+carries_from R l = all_pass from_switch carry (λ p. refl) l
 
-carries_from : (R : Type 0) (l : List ℕ) → from_switch (map (carry {R = R}) l) ≡ true
-carries_from R [] = refl
-carries_from R (p ∷ l) = carries_from R l
+passes_from : (R : Type 0) (l : List ℕ) → list_all from_switch (map (pass {R = R}) l) ≡ true
+passes_from R l = all_pass from_switch pass (λ p. refl) l
 
-passes_from : (R : Type 0) (l : List ℕ) → from_switch (map (pass {R = R}) l) ≡ true
-passes_from R [] = refl
-passes_from R (p ∷ l) = passes_from R l
+mixed_from : (R : Type 0) (x : List (Bool × ℕ)) → list_all from_switch (map (marked {R = R}) x) ≡ true
+mixed_from R x = all_pass from_switch marked (λ m. by_if (λ it. from_switch it ≡ true) m.0 refl refl) x
 
-mixed_from : (R : Type 0) (x : List (Bool × ℕ)) → from_switch (map (marked {R = R}) x) ≡ true
-mixed_from R [] = refl
-mixed_from R ((true, p) ∷ x) = mixed_from R x
-mixed_from R ((false, p) ∷ x) = mixed_from R x
-
-puts_to : {R : Type 0} (w : List (Part R)) → to_dest (map next w) ≡ true
-puts_to [] = refl
-puts_to (h ∷ w) = puts_to w
-
-pub sb_kind : {R : Type 0} (F : Steps R) (s : Stage F) → from_switch (shape F s).sb ≡ true
+sb_kind : {R : Type 0} (F : Steps R) (s : Stage F) → list_all from_switch (shape F s).sb ≡ true
 sb_kind F (At_rest d l k) = refl
-sb_kind F s = first_of (simp (from_switch-append, carries_from, passes_from, mixed_from), cc)
+sb_kind F s = first_of (simp (list_all-append, carries_from, passes_from, mixed_from), cc)
 
-pub cb_kind : {R : Type 0} (F : Steps R) (s : Stage F) → to_dest (shape F s).cb ≡ true
-cb_kind F (Streams d f y q l k (Is_wide g w) fl) = puts_to w
+cb_kind : {R : Type 0} (F : Steps R) (s : Stage F) → list_all to_dest (shape F s).cb ≡ true
+cb_kind F (Streams d f y q l k (Is_wide g w) fl) = all_pass to_dest next (λ h. refl) w
 cb_kind F (Streams d f y q l k s fl) = refl
 cb_kind F (At_rest d l k) = refl
 cb_kind F s = refl
@@ -98,7 +84,8 @@ stays_bare F s m a bare none =
     let g = goes_on F s m a in
     order_nil (loose g.0) (all_of g.0) (all_of s ++ arrived_by m) g.2 (rw (bare, none) refl)
 
-fences_alone : {R : Type 0} (xs : List (Item R)) → from_switch xs ≡ true → carries xs ≡ [] → passes_in xs ≡ [] → fences xs ≡ true
+fences_alone : {R : Type 0} (xs : List (Item R)) → list_all from_switch xs ≡ true → carries xs ≡ [] → passes_in xs ≡ []
+    → list_all is_fence xs ≡ true
 fences_alone [] s c p = refl
 fences_alone (Fence ∷ xs) s c p = fences_alone xs s c p
 fences_alone (Carry n ∷ xs) s c p = cc
@@ -112,8 +99,8 @@ pub record Bare {R : Type 0} (u : State R) : Type 0 where
   pub live : u.b.live ≡ None
   pub way : on_way u ≡ []
   pub cb_none : records_on u.cb ≡ []
-  pub cb_is : to_dest u.cb ≡ true
-  pub sb_is : fences u.sb ≡ true
+  pub cb_is : list_all to_dest u.cb ≡ true
+  pub sb_is : list_all is_fence u.sb ≡ true
   pub rule : not_drops u.b.rule ≡ true
 
 nil_option : {R : Type 0} (o : Option R) → option_to_list o ≡ [] → o ≡ None

@@ -12,7 +12,7 @@ abbrev pass_of : {R : Type 0} → Item R → Option ℕ
 pass_of (Pass p) = Some p
 pass_of x = None
 
-abbrev carry_of : {R : Type 0} → Item R → Option ℕ
+abbrev pub carry_of : {R : Type 0} → Item R → Option ℕ
 carry_of (Carry p) = Some p
 carry_of x = None
 
@@ -39,9 +39,6 @@ forwards xs = filter_map forward_of xs
 -- the arrived and unprocessed packets of the unit, by the places where they stand
 abbrev pub path_of : {R : Type 0} → State R → List ℕ
 path_of u = passes_in u.sa ++ (passes_in u.sb ++ (forwards u.cs ++ (u.store ++ (events_in u.ac ++ (u.a.held ++ (carries u.sa ++ (u.b.held ++ carries u.sb)))))))
-
-pub carries-append : {R : Type 0} (xs ys : List (Item R)) → carries (xs ++ ys) ≡ carries xs ++ carries ys
-carries-append xs ys = filter_map-append carry_of xs ys
 
 -- lists of one kind
 abbrev pub carry : {R : Type 0} → ℕ → Item R
