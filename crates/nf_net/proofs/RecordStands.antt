@@ -9,7 +9,7 @@ use Rattle.nf_net.proofs.Words.{processed_of, owner, node_step, node_ready, star
 use Rattle.nf_net.proofs.Words.{done_same, given, Given, S, A, came_by, Unit, split}
 use Rattle.std.specs.FinMap as finite
 use Rattle.proof_machines.proofs.unit.Machine.{after}
-use Rattle.proof_machines.proofs.unit.Bare.{firsts_nil}
+use Rattle.proof_machines.proofs.unit.Lists.{map_nil}
 use Rattle.proof_machines.proofs.unit.Kept.{Nowhere, Is_live, On_way, Twice, lives, on_way}
 use Rattle.proof_machines.proofs.unit.ToRemove.{ToRemove, Is_given, Is_named, still_to_remove, third_live}
 use Rattle.proof_machines.proofs.unit.SeatLaws.{seat_kept}
@@ -100,7 +100,7 @@ module _ {F R : Type 0} (here : Reached F R) (in_turn : IsFront (arrivals_in her
   owned : (r : R) → after (S f g).F x.done ≡ Some r → IsOwned here in_turn u at apart
   owned r some = by_came here in_turn u at apart
       (λ all.
-      let none : x.done ≡ [] = firsts_nil x.done (nil_left (firsts x.done) (seat_path k.seat) (sym (seat_parts (S f g).F k.seat) ∙ all)) in
+      let none : x.done ≡ [] = map_nil _ x.done (nil_left (firsts x.done) (seat_path k.seat) (sym (seat_parts (S f g).F k.seat) ∙ all)) in
       never (after (S f g).F x.done) r (ap (after (S f g).F) none) some)
       (λ h. h)
 

@@ -8,8 +8,8 @@ use Rattle.nf_net.proofs.Words.{stored_by, queued_by, on_links, owner, is_loose,
 use Rattle.nf_net.proofs.Words.{is_sys, unit_is_fit, Given, GenuinePacket, S, A, done_same, given, genuine, Unit, flow_of, split}
 use Rattle.std.specs.Prelude.{None}
 use Rattle.proof_machines.proofs.unit.Stages as stages
-use Rattle.proof_machines.proofs.unit.Path.{carries, forwards}
-use Rattle.proof_machines.proofs.unit.Sides.{at_side, places, Last, At_source, At_destination, At_third, SidesStand, seat_stands, Empty, empty_of}
+use Rattle.proof_machines.proofs.unit.Path.{carries, forwards, places}
+use Rattle.proof_machines.proofs.unit.Sides.{at_side, Last, At_source, At_destination, At_third, SidesStand, seat_stands, Empty, empty_of}
 use Rattle.proof_machines.proofs.net.Units.{see}
 use Rattle.net_world.specs.Input.{packets}
 use Rattle.net_world.specs.Path.{at_instance}

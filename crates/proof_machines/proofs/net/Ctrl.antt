@@ -1,7 +1,8 @@
 -- Lists of open moves: what a number finds after a move was written or closed. And of its own move's row a unit sees the machine's,
 -- on any message.
-use Rattle.proof_machines.proofs.net.Words.{◌≡◌, ℕ, Bool, true, false, Some, None, List, [], refl, ap, ◌∙◌, if◌then◌else◌, ◌&&◌, ◌==◌, same_Some, Where, At_a}
-use Rattle.proof_machines.proofs.net.Words.{At_b, Item, Fence_to, M_enable, M_stream, M_delete, M_put, M_restore, M_event, M_forward, M_install, M_fence_to}
+use Rattle.proof_machines.proofs.unit.Real.{sent_either}
+use Rattle.proof_machines.proofs.net.Words.{◌≡◌, ℕ, Bool, true, false, Some, None, List, [], refl, ap, ◌∙◌, ◌&&◌, ◌==◌, same_Some}
+use Rattle.proof_machines.proofs.net.Words.{Fence_to, M_enable, M_stream, M_delete, M_put, M_restore, M_event, M_forward, M_install, M_fence_to}
 use Rattle.proof_machines.proofs.net.Words.{RPhase, Op, r_goes, r_from_source, r_from_destination, Sees, NodesDiffer, frame_of, quiet, did_a, did_b}
 use Rattle.proof_machines.proofs.net.Words.{from_source_seen, from_destination_seen, Each, Open, find_op, set_op, write_op, num_of, Unit}
 use Rattle.std.specs.Option.{option_map}
@@ -9,7 +10,6 @@ use Rattle.proof_machines.proofs.net.Net.{written}
 use Rattle.proof_machines.proofs.Tests.{by_if}
 use Rattle.proof_machines.proofs.NumberedLists as numbers
 use Rattle.proof_machines.proofs.NumberedLists.{find-drop_other, find-change_own, find-change_other, each-drop, each-change}
-use Rattle.proof_machines.proofs.unit.Machine.{Stray}
 use Rattle.proof_machines.proofs.unit.Real
 use Rattle.move_op.specs.Phases.{Over}
 
@@ -38,13 +38,6 @@ each_found P k es e h there = numbers.each_found _ P k es e h there
 own_num : (k n : ℕ) → (n == n) ≡ true → Some k ≡ Some n → (k == n) ≡ true
 own_num k n self e = let same : k ≡ n = same_Some _ _ e in rw same self
 
--- what holds of an item to each side, and of a stray one, holds of the one that is seen
-pub to_side : {R : Type 0} (b c : Bool) (f : Where → Item R) (P : Item R → Type 0) → ((v : Where) → P (f v)) → P Stray
-    → P (if b then f At_a else if c then f At_b else Stray)
-to_side true c f P each stray = each At_a
-to_side false true f P each stray = each At_b
-to_side false false f P each stray = stray
-
 -- a row of a move on each message that bears its number, also on those that it doesn't know
 module _ {R : Type 0} (o : Op) (mine : ℕ → Bool) (u : Unit) (t : NodesDiffer o) where
   pub ext_a : (phase : RPhase R) (f : List ℕ) (m : Real.Msg R) → num_of m ≡ Some o.num
@@ -61,8 +54,8 @@ module _ {R : Type 0} (o : Op) (mine : ℕ → Bool) (u : Unit) (t : NodesDiffer
       rw e (by_if (λ it. Sees (frame_of o mine u) (r_goes phase f []) (did_a o mine u t phase f (Some it))) ((from == o.src) && (to == o.dst)) none none)
   ext_a phase f (M_fence_to n to) h =
       let e = own_num n o.num t.num h in let none = quiet o mine u t phase f in
-      rw e (to_side (to == o.src) (to == o.dst) (λ w. Fence_to w)
-      (λ it. Sees (frame_of o mine u) (r_goes phase f []) (did_a o mine u t phase f (Some it))) (λ _. none) none)
+      rw e (sent_either (λ it. Sees (frame_of o mine u) (r_goes phase f []) (did_a o mine u t phase f (Some it))) (frame_of o mine u) to (λ w. Fence_to w)
+      (λ _. none) none)
   ext_a phase f m h = from_source_seen o mine u t phase f m (same_Some _ _ h)
 
   pub ext_b : (phase : RPhase R) (f : List ℕ) (m : Real.Msg R) → num_of m ≡ Some o.num
@@ -79,6 +72,6 @@ module _ {R : Type 0} (o : Op) (mine : ℕ → Bool) (u : Unit) (t : NodesDiffer
       rw e (by_if (λ it. Sees (frame_of o mine u) (r_goes phase f []) (did_b o mine u t phase f (Some it))) ((from == o.src) && (to == o.dst)) none none)
   ext_b phase f (M_fence_to n to) h =
       let e = own_num n o.num t.num h in let none = quiet o mine u t phase f in
-      rw e (to_side (to == o.src) (to == o.dst) (λ w. Fence_to w)
-      (λ it. Sees (frame_of o mine u) (r_goes phase f []) (did_b o mine u t phase f (Some it))) (λ _. none) none)
+      rw e (sent_either (λ it. Sees (frame_of o mine u) (r_goes phase f []) (did_b o mine u t phase f (Some it))) (frame_of o mine u) to (λ w. Fence_to w)
+      (λ _. none) none)
   ext_b phase f m h = from_destination_seen o mine u t phase f m (same_Some _ _ h)

@@ -1,5 +1,6 @@
 -- The controller's step at one unit: of its own move it sees the machine's row, of another move nothing, and all that is open or
 -- sent has its labels.
+use Rattle.proof_machines.proofs.unit.Real.{sent_either}
 use Rattle.proof_machines.proofs.net.Words.{◌≡◌, ℕ, Bool, true, false, Option, Some, None, List, [], ◌∷◌, refl, sym, ap, ◌∙◌, subst, if◌then◌else◌, ◌==◌}
 use Rattle.proof_machines.proofs.net.Words.{eqb-true, both_ways, same_Some, Item, Pass, State, ControllerTurn, goes, from_source, from_destination, M_enable}
 use Rattle.proof_machines.proofs.net.Words.{M_stream, M_delete, M_put, M_restore, M_event, M_piece, M_put_no, M_forward, M_install, M_fence_to, RPhase, Op}
@@ -14,7 +15,7 @@ use Rattle.move_op.specs.Phases.{Over}
 use Rattle.proof_machines.proofs.unit.Quiet.{Is_quiet, IsNotMine, view_nothing, from_source_quiet, from_destination_quiet}
 use Rattle.proof_machines.proofs.net.RowNumbers.{OfRow, SentOf, row_numbers}
 use Rattle.proof_machines.proofs.NumberedLists.{find-drop_own}
-use Rattle.proof_machines.proofs.net.Ctrl.{none_some, find_set, find_write_other, each_write, each_found, to_side, ext_a, ext_b}
+use Rattle.proof_machines.proofs.net.Ctrl.{none_some, find_set, find_write_other, each_write, each_found, ext_a, ext_b}
 
 module _ {R : Type 0} (S : Sys R) (z : Seeing) where
   abbrev fr : Frame
@@ -220,8 +221,8 @@ module _ {R : Type 0} (S : Sys R) (z : Seeing) where
 
     no_num : (a b : Bool) (m : Real.Msg R) → num_of m ≡ None → mdid a b x.phase x.store (Real.seen fr m) ≡ stay
     no_num a b (M_forward p to) e = idle_if a b (fr.mine p) (sends_to fr to (λ w. Forward w p))
-        (to_side (to == fr.from) (to == fr.to) (λ w. Forward w p) (λ it. from_source x.phase x.store it ≡ stay) (λ _. refl) refl)
-        (to_side (to == fr.from) (to == fr.to) (λ w. Forward w p) (λ it. from_destination z.op.keep x.phase x.store it ≡ stay) (λ _. refl) refl)
+        (sent_either (λ it. from_source x.phase x.store it ≡ stay) fr to (λ w. Forward w p) (λ _. refl) refl)
+        (sent_either (λ it. from_destination z.op.keep x.phase x.store it ≡ stay) fr to (λ w. Forward w p) (λ _. refl) refl)
     no_num a b (M_enable j r) e = none_some (sym e)
     no_num a b m e = none_some (sym e)
 

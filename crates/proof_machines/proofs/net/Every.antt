@@ -1,12 +1,13 @@
 -- The invariant of a world: numbers below the next one, and for every unit where it is. Each step keeps it, and so do begins and ends.
+use Rattle.proof_machines.proofs.unit.SeenInst.{put_answers}
 use Rattle.proof_machines.proofs.EachLaws.{each_made}
 use Rattle.proof_machines.proofs.net.Words.{◌≡◌, ℕ, suc, ◌<◌, ◌≤◌, Bool, true, false, Option, Some, None, List, [], ◌∷◌, map, length, refl, subst, arith}
 use Rattle.proof_machines.proofs.net.Words.{if◌then◌else◌, ◌&&◌, ◌==◌, Rule, Free, Drops, Buffers, RPiece, M_enable, M_stream, M_delete, M_put, M_restore}
-use Rattle.proof_machines.proofs.net.Words.{M_piece, M_forward, M_install, M_fence_to, Op, marks, chop, Each, each-append, each_map, r_put, Filter, inst_next}
+use Rattle.proof_machines.proofs.net.Words.{M_piece, M_forward, M_install, M_fence_to, Op, marks, chop, Each, each-append, each_map, Filter, inst_next}
 use Rattle.proof_machines.proofs.net.Words.{ctrl_next, sw_next, in_next, begin_next, Msg, Carry_on, Pass_on, Fence_on, Mv, MoveAsked, Sys, IsSys, Ruling}
 use Rattle.proof_machines.proofs.net.Words.{first_rule, set_rule, hold, holding, to_ctrl, NumberedInstance, by_kind, by_rule, inst_step, Open}
 use Rattle.proof_machines.proofs.net.Words.{find_op, num_of, row, wrap, found, numbered, ctrl_step, sw_sends, new_op, begin_sends, World, EachSent, each_after}
-use Rattle.proof_machines.proofs.net.Words.{each_put, Below, IsBelow, Global, Answer, Unit}
+use Rattle.proof_machines.proofs.net.Words.{each_put, Below, IsBelow, Global, Unit}
 use Rattle.proof_machines.proofs.unit.Real
 use Rattle.proof_machines.proofs.NumberedLists.{each-change, each-drop}
 use Rattle.proof_machines.proofs.net.RuleLists.{each_set}
@@ -49,13 +50,6 @@ module _ {R : Type 0} (S : Sys R) (laws : IsSys S) where
     pieces_below n [] e = tt
     pieces_below n (p ∷ ps) e = (e, pieces_below n ps e)
 
-    put_below : (i : NumberedInstance S) (n : ℕ) (p : RPiece R) (first : Bool) (refuse : Option Answer) (last : Bool) → p.last ≡ last → n < b
-        → SendsBelow (map to_ctrl (r_put S.F S.B n first refuse p i.live).1)
-    put_below i n p false refuse true e h = rw e (h, tt)
-    put_below i n p false refuse false e h = rw e tt
-    put_below i n p true None last e h = (h, tt)
-    put_below i n p true (Some why) last e h = (h, tt)
-
     inst_below : (i : NumberedInstance S) (m : Msg R) → Below b m → RulesBelow i.rules
         → SendsBelow (inst_step S i m).sends × RulesBelow (inst_step S i m).node.rules
     inst_below i (Carry_on p) e h = carry_below i p (first_rule S (S.packet_unit p) i.rules) refl h
@@ -68,7 +62,8 @@ module _ {R : Type 0} (S : Sys R) (laws : IsSys S) where
       h,
     )
     inst_below i (Mv g (M_delete n us)) e h = ((e, tt), h)
-    inst_below i (Mv g (M_put n p first)) e h = (put_below i n p first (S.refuse i.room i.live p) p.last refl e, h)
+    inst_below i (Mv g (M_put n p first)) e h =
+        (each_made _ to_ctrl (λ _ k. k) _ (put_answers S.F S.B (λ m. IsBelow b (num_of m)) n first (S.refuse i.room i.live p) p i.live e (λ _. e)), h)
     inst_below i (Mv g (M_restore n cs)) e h = ((e, tt), h)
     inst_below i m e h = (tt, h)
 

@@ -1,4 +1,6 @@
 -- A world with a unit at rest shows a seat at rest, and a seat at rest whose move isn't open is a unit at rest.
+use Rattle.proof_machines.proofs.Tests.{by_if}
+use Rattle.proof_machines.proofs.unit.Real.{sent_either}
 use Rattle.proof_machines.proofs.NumberedLists.{none_below}
 use Rattle.proof_machines.proofs.EachLaws.{each_both}
 use Rattle.proof_machines.proofs.net.Words.{◌≡◌, ℕ, ◌≤◌, ◌<◌, Bool, true, false, Option, Some, None, List, [], ◌∷◌, map, refl, sym, ap, ◌∙◌, subst, unwrap_or}
@@ -156,19 +158,13 @@ module _ {R : Type 0} (S : Sys R) (z : Seeing) where
   no_if true it e = e
   no_if false it e = refl
 
-  no_side : (a b : Bool) (f : Where → Item R) → ((v : Where) → no_carry (Some (f v)) ≡ true)
-      → no_carry (Some (if a then f At_a else if b then f At_b else Stray)) ≡ true
-  no_side true b f e = e At_a
-  no_side false true f e = e At_b
-  no_side false false f e = refl
-
   mv_no_carry : (m : Real.Msg R) → no_carry (Real.seen (frame S z) m) ≡ true
   mv_no_carry (M_forward p to) = no_if (same_unit (S.packet_unit p) u) _
-      (no_side (to == z.op.src) (to == z.op.dst) (λ v. Rattle.proof_machines.proofs.unit.Machine.Forward v p) (λ v. refl))
-  mv_no_carry (M_fence_to k to) =
-      no_if (k == n) _ (no_side (to == z.op.src) (to == z.op.dst) (λ v. Rattle.proof_machines.proofs.unit.Machine.Fence_to v) (λ v. refl))
-  mv_no_carry (M_install k from to) = no_if (k == n) _ (elim ((from == z.op.src) && (to == z.op.dst))
-      as (λ t. no_carry (Some (if t then Rattle.proof_machines.proofs.unit.Machine.Install else Stray)) ≡ true) [ true ↦ refl | false ↦ refl ])
+      (sent_either (λ it. no_carry (Some it) ≡ true) (frame S z) to (λ v. Rattle.proof_machines.proofs.unit.Machine.Forward v p) (λ v. refl) refl)
+  mv_no_carry (M_fence_to k to) = no_if (k == n) _
+      (sent_either (λ it. no_carry (Some it) ≡ true) (frame S z) to (λ v. Rattle.proof_machines.proofs.unit.Machine.Fence_to v) (λ v. refl) refl)
+  mv_no_carry (M_install k from to) = no_if (k == n) _
+      (by_if (λ it. no_carry (Some it) ≡ true) ((from == z.op.src) && (to == z.op.dst)) refl refl)
   mv_no_carry m = no_if _ _ refl
 
   pub mv_nothing : (g : Filter) (m : Real.Msg R) → Real.seen (frame S z) m ≡ None → MoveLabel S z g m → HasNothing S u g m

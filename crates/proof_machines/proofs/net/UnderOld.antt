@@ -1,8 +1,9 @@
 -- A unit that no move takes, at one node: an instance and the controller, on a message of a move, leave it with labels as before, and of its
 -- record and its packets no more than a plain packet of it changes.
+use Rattle.proof_machines.proofs.unit.Lists.{cons_option_nil}
 use Rattle.proof_machines.proofs.NumberedLists.{none_below}
 use Rattle.proof_machines.proofs.net.Words.{find_rule, ◌≡◌, ℕ, ◌≤◌, ◌<◌, Bool, true, false, Option, Some, None, List, [], ◌∷◌, refl, sym, ap, ◌∙◌, subst, arith}
-use Rattle.proof_machines.proofs.net.Words.{if◌then◌else◌, ◌==◌, nat_tests, self, Op, where_true, add, sent_for, only_mine, off_if, NodesDiffer, Each}
+use Rattle.proof_machines.proofs.net.Words.{if◌then◌else◌, ◌==◌, nat_tests, self, Op, where_true, sent_for, only_mine, off_if, NodesDiffer, Each}
 use Rattle.proof_machines.proofs.net.Words.{filter_map, rest_at, Filter, Msg, Carry_on, Pass_on, Fence_on, Mv, Sys, IsSys, rule_of, held_of, NumberedInstance}
 use Rattle.proof_machines.proofs.net.Words.{InstanceTurn, says, on_move, inst_step, Open, find_op, ControllerMove, ctrl_step, seen, Seeing, EachSent, frame}
 use Rattle.proof_machines.proofs.net.Words.{Label, OpLabel, SeesNode, IsController, Below, RestRule, RestOp, NothingOf, none_mine, same_unit, either_way, Unit}
@@ -56,21 +57,17 @@ module _ {R : Type 0} (S : Sys R) (laws : IsSys S) (u : Unit) where
     nothing_one i (Pass_on p) none l = off_if (mine p) _ none
     nothing_one i m none l = tt
 
-    add_nil : (o : Option (moves.Item R)) (v : List (moves.Item R)) → add o v ≡ [] → (o ≡ None) × (v ≡ [])
-    add_nil None v e = (refl, e)
-    add_nil (Some it) v e = cc
-
     -- sends of which nothing is seen
     nothing_sent : (xs : List (ℕ × Msg R)) → EachSent (λ j m. Label S z 1 m) xs → ((j : ℕ) → its (sent_for j xs) ≡ []) → EachSent (λ _ m. NothingOf S u 1 m) xs
     nothing_sent [] l e = tt
     nothing_sent (x ∷ xs) l e = (nothing_one 1 x.1 (here (x.0 == x.0) (self x.0) (e x.0)) l.0, nothing_sent xs l.1 (λ j. later (x.0 == j) j (e j)))
       where
         here : (t : Bool) → t ≡ true → its (if t then x.1 ∷ sent_for x.0 xs else sent_for x.0 xs) ≡ [] → seen (frame S z) x.1 ≡ None
-        here true _ h = (add_nil (seen (frame S z) x.1) (its (sent_for x.0 xs)) h).0
+        here true _ h = (cons_option_nil (seen (frame S z) x.1) (its (sent_for x.0 xs)) h).0
         here false off h = let never : false ≡ true = off in cc
 
         later : (t : Bool) (j : ℕ) → its (if t then x.1 ∷ sent_for j xs else sent_for j xs) ≡ [] → its (sent_for j xs) ≡ []
-        later true j h = (add_nil (seen (frame S z) x.1) (its (sent_for j xs)) h).1
+        later true j h = (cons_option_nil (seen (frame S z) x.1) (its (sent_for j xs)) h).1
         later false j h = h
 
     -- An instance

@@ -1,14 +1,14 @@
 -- A stage without any packet of the unit has no record of it and holds nothing; a step in which no packet comes leaves it so.
 use Rattle.proof_machines.proofs.unit.Words.{◌≡◌, ℕ, ◌+◌, Bool, true, false, Option, Some, None, List, [], ◌∷◌, ◌++◌, map, refl, ap, ◌∙◌, arith, if◌then◌else◌}
-use Rattle.proof_machines.proofs.unit.Words.{◌==◌, option_to_list, Ran, Steps, after, Rule, Free, Drops, Buffers, Item, Carry, Pass, Fence, Enable, Put}
+use Rattle.proof_machines.proofs.unit.Words.{◌==◌, option_to_list, Steps, after, Rule, Free, Drops, Buffers, Item, Carry, Pass, Fence, Enable, Put}
 use Rattle.proof_machines.proofs.unit.Words.{next, State, MachineStep, firsts, marked, nil_left, nil_right, Stage, At_rest, Streams, Is_wide, shape, path}
 use Rattle.proof_machines.proofs.unit.Words.{all_of, loose, times, Same, IsOrderedAs, Allowed, arrived_by}
 use Rattle.std.specs.List.{list_all}
 use Rattle.std.proofs.lemmas.Bool.Decides.{Decides-eqb}
 use Rattle.std.proofs.lemmas.List.Folds.{list_all-append}
 use Rattle.proof_machines.proofs.Tests.{by_if}
-use Rattle.proof_machines.proofs.unit.Lists.{all_pass}
-use Rattle.proof_machines.proofs.unit.Path.{passes_in, carries, path_of, carry, pass, path_is}
+use Rattle.proof_machines.proofs.unit.Lists.{all_pass, map_nil}
+use Rattle.proof_machines.proofs.unit.Path.{passes_in, carries, path_of, none_of, carry, pass, path_is}
 use Rattle.proof_machines.proofs.unit.Kept.{Kept, Nowhere, Is_live, On_way, Twice, is_kept, lives, on_way, records_on, frozen_in}
 use Rattle.proof_machines.proofs.unit.Steps.{goes_on}
 
@@ -53,16 +53,11 @@ cb_kind F (At_rest d l k) = refl
 cb_kind F s = refl
 
 if_not_drops : (k : Bool) → not_drops (if k then Buffers else Free) ≡ true
-if_not_drops true = refl
-if_not_drops false = refl
+if_not_drops k = by_if (λ r. not_drops r ≡ true) k refl refl
 
 pub b_rule : {R : Type 0} (F : Steps R) (s : Stage F) → not_drops (shape F s).b.rule ≡ true
 b_rule F (At_rest d l k) = refl
 b_rule F s = first_of (simp if_not_drops, cc)
-
-pub firsts_nil : (d : List Ran) → firsts d ≡ [] → d ≡ []
-firsts_nil [] e = refl
-firsts_nil (x ∷ d) e = cc
 
 -- lists with the same packets as none
 same_nil : (xs : List ℕ) → Same xs [] → xs ≡ []
@@ -117,15 +112,9 @@ no_record o a live way e (Twice r is _ x y) = let never : ⊥ = cc in absurd nev
 pub bare_facts : {R : Type 0} (F : Steps R) (s : Stage F) → all_of s ≡ [] → Bare (shape F s)
 bare_facts F s bare =
     let u = shape F s in
-    let done : u.done ≡ [] = firsts_nil u.done (nil_left (firsts u.done) (path s) bare) in
+    let done : u.done ≡ [] = map_nil _ u.done (nil_left (firsts u.done) (path s) bare) in
     let none : path_of u ≡ [] = path_is F s ∙ nil_right (firsts u.done) (path s) bare in
-    let p1 = nil_right (passes_in u.sa) _ none in
-    let p2 = nil_right (passes_in u.sb) _ p1 in
-    let p3 = nil_right _ _ p2 in
-    let p4 = nil_right u.store _ p3 in
-    let p5 = nil_right _ _ p4 in
-    let p6 = nil_right u.a.held _ p5 in
-    let p7 = nil_right (carries u.sa) _ p6 in
+    let nowhere = none_of u none in
     let kept = no_record (after F u.done) u.a.live (lives u) (on_way u) (ap (λ z. after F z) done) (is_kept F s) in
     let l1 = nil_right (option_to_list u.a.live) _ kept.0 in
     let w1 = nil_right (records_on u.ac) _ kept.1 in
@@ -133,12 +122,12 @@ bare_facts F s bare =
     let w3 = nil_right (records_on u.bc) _ w2 in
     record {
       done = done;
-      held = nil_left u.b.held (carries u.sb) p7;
+      held = nowhere.held_b;
       a_live = nil_option u.a.live (nil_left (option_to_list u.a.live) _ kept.0);
       way = kept.1;
       live = nil_option u.b.live (nil_left (option_to_list u.b.live) _ l1);
       cb_none = nil_left (records_on u.cb) _ w3;
       cb_is = cb_kind F s;
-      sb_is = fences_alone u.sb (sb_kind F s) (nil_right u.b.held (carries u.sb) p7) (nil_left (passes_in u.sb) _ p1);
+      sb_is = fences_alone u.sb (sb_kind F s) nowhere.carries_b nowhere.before.passes_b;
       rule = b_rule F s;
     }

@@ -1,11 +1,12 @@
 -- Each step for a unit that the destination owns already, while a move takes it: its packets stay in order, also where they are
 -- held, its record stays there.
+use Rattle.proof_machines.proofs.unit.Lists.{cons_option_nil, never_true}
 use Rattle.proof_machines.proofs.unit.Words.{◌≡◌, ℕ, Bool, true, false, Option, Some, None, List, [], ◌∷◌, ◌++◌, map, refl, sym, ap, ◌∙◌, append_assoc}
 use Rattle.proof_machines.proofs.unit.Words.{append-nil, option_to_list, Answer, At_a, At_b, At_c, Ran, on, Steps, after, Part, Free, Drops, Buffers, Item}
 use Rattle.proof_machines.proofs.unit.Words.{Carry, Pass, Fence, Enable, Put, Forward, Fence_to, Phase, Idle, State, MachineStep, Begin, Arrive, Take_sa}
 use Rattle.proof_machines.proofs.unit.Words.{Take_sb, Take_sc, Take_ac, Take_bc, Take_ca, Take_cb, Take_cs, moved, begun, put, put_b, switch_does, Over, firsts}
 use Rattle.proof_machines.proofs.unit.Words.{map-append, firsts-on, Stage, At_rest, shape, all_of, Allowed, Placed, arrived_by, still, one_more}
-use Rattle.std.specs.List.{cons_option, filter, list_all}
+use Rattle.std.specs.List.{filter, list_all}
 use Rattle.std.specs.Prelude.{is_none}
 use Rattle.std.proofs.lemmas.List.Sums.{fold-append}
 use Rattle.std.proofs.lemmas.List.Elements.{filter-append, filter_map-append}
@@ -106,10 +107,6 @@ cs_beside F u z h d = elim u.cs as (λ xs. SendsBeside F (record u { cs = xs }) 
 ]
 
 -- what B takes from the controller: its rule, or a piece without the unit
-nil_own : {R : Type 0} (o : Option R) (xs : List R) → cons_option o xs ≡ [] → o ≡ None
-nil_own None xs e = refl
-nil_own (Some r) xs e = cc
-
 -- a step of B that takes from the controller: the link to B stays
 pub record TakesBeside {R : Type 0} (F : Steps R) (u : State R) (step : State R → State R) (own : OwnPackets R) : Type 0 where
   pub is : step (with_own F u own) ≡ with_own F (step u) own
@@ -128,7 +125,8 @@ cb_beside : {R : Type 0} (F : Steps R) (u : State R) (z : List (Item R)) (h : Li
 cb_beside F u z h d refuse [] k r = record { is = refl; link = refl; rule = λ e. e }
 cb_beside F u z h d refuse (Enable Buffers ∷ xs) k r = record { is = simp append_assoc; link = refl; rule = λ e. cc }
 cb_beside F u z h d refuse (Put p first ∷ xs) k r =
-    let t = put_beside F (record u { cb = xs }) z h d p first refuse (nil_own p.own (records_on xs) r) in record { is = t.is; link = t.link; rule = t.rule }
+    let t = put_beside F (record u { cb = xs }) z h d p first refuse (cons_option_nil p.own (records_on xs) r).0 in
+    record { is = t.is; link = t.link; rule = t.rule }
 cb_beside F u z h d refuse (x ∷ xs) k r = cc
 
 -- a stage of the message, and the unit's own packets: `z` is the link to B with them
@@ -294,14 +292,11 @@ nothing_there : {R : Type 0} (F : Steps R) (s : DestinationUnit F) → s.z ≡ [
 nothing_there F s e = (s, quiet_link F (shape F s.base) s.z s.h s.d e, sym (append-nil (all_beside s)), still At_b s.d)
 
 -- no other item stands there
-false_true : false ≡ true → ⊥
-false_true e = cc
-
 by_link : {R : Type 0} (F : Steps R) (s : DestinationUnit F) (z : List (Item R)) → s.z ≡ z → GoesOnBeside F s Take_sb
 by_link F s [] e = nothing_there F s e
 by_link F s (Carry p ∷ z) e = takes_packet F s p z e
 by_link F s (Fence ∷ z) e = takes_fence F s z e
-by_link F s (x ∷ z) e = absurd (false_true (ap (list_all is_fence) (rw e at s.strips) ∙ (bare_facts F s.base s.bare).sb_is))
+by_link F s (x ∷ z) e = never_true (ap (list_all is_fence) (rw e at s.strips) ∙ (bare_facts F s.base s.bare).sb_is)
 
 pub beside_goes_on : {R : Type 0} (F : Steps R) (s : DestinationUnit F) (m : MachineStep R) → Allowed (shape F s.base) m → GoesOnBeside F s m
 beside_goes_on F s (Arrive p) a = (

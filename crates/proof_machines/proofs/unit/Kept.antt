@@ -2,7 +2,7 @@
 -- source.
 use Rattle.proof_machines.proofs.unit.Words.{◌≡◌, ℕ, Bool, Option, Some, None, List, [], ◌∷◌, ◌++◌, map, refl, sym, ap, ◌∙◌, append_assoc, append-nil}
 use Rattle.proof_machines.proofs.unit.Words.{option_to_list, Ran, Steps, after, Part, pick, Item, Put, Restore, Event, Piece, Put_no, Phase, next, delete}
-use Rattle.proof_machines.proofs.unit.Words.{State, Mix, Ev, Pc, Dd, shown, parts_in, named, records, first, pick_first, nil_left, nil_right}
+use Rattle.proof_machines.proofs.unit.Words.{State, Mix, Ev, Pc, Dd, shown, parts_in, named, records, first, pick_first}
 use Rattle.proof_machines.proofs.unit.Words.{Stage, At_rest, Begun, Frozen, Stream_goes, Streams, All_put, Hold_goes, Held, Laying, Turned, Fenced_a, Ending_b}
 use Rattle.proof_machines.proofs.unit.Words.{Fence_b, Turned_loose, Fenced_loose, Ending_loose, Fence_loose, Fenced_b, Moved, Restore_goes, Restored_comes}
 use Rattle.proof_machines.proofs.unit.Words.{Turn_goes, Turned_back, Returned, Fence_a, Fenced_back, Undone, Doorway, Is_shut, Is_asked, Is_agreed, Is_denied}
@@ -63,37 +63,21 @@ on_puts (h ∷ w) = ap (cons_option h.own) (on_puts w)
 none_on_deletes : {R : Type 0} (q : List (Part R)) → records_on (map delete q) ≡ []
 none_on_deletes q = picked_none _ delete (λ h. refl) q
 
+-- lists that have nothing together
+none_of : {X : Type 0} (w n q p : List X) → w ++ (n ++ (q ++ p)) ≡ [] → (w ≡ []) × (n ≡ []) × (q ≡ []) × (p ≡ [])
+none_of [] [] [] [] e = (refl, refl, refl, refl)
+none_of w n q p e = let never : ⊥ = cc in absurd never
+
 -- one record in five places: put, on the way behind the door, Deleted, to be deleted, on the link
 spread : {R : Type 0} (o : Option R) (g w n q p : List R) → g ++ (w ++ (n ++ (q ++ p))) ≡ option_to_list o
     → Kept o (first (q ++ p)) (option_to_list (first (q ++ p)) ++ option_to_list (first g)) (p ++ (n ++ (q ++ w)))
 spread None [] [] [] [] [] e = Nowhere refl refl refl
-spread None [] [] [] [] (r ∷ p) e = let never : ⊥ = cc in absurd never
-spread None [] [] [] (r ∷ q) p e = let never : ⊥ = cc in absurd never
-spread None [] [] (r ∷ n) q p e = let never : ⊥ = cc in absurd never
-spread None [] (r ∷ w) n q p e = let never : ⊥ = cc in absurd never
-spread None (r ∷ g) w n q p e = let never : ⊥ = cc in absurd never
-spread (Some s) [] [] [] [] [] e = let never : ⊥ = cc in absurd never
-spread (Some s) [] [] [] [] (r ∷ p) e = let m : p ≡ [] = cc in let is : r ≡ s = cc in rw (m, is) (Twice s refl refl refl refl)
-spread (Some s) [] [] [] (r ∷ q) p e =
-    let both : q ++ p ≡ [] = cc in let is : r ≡ s = cc in
-    let m = nil_left q p both in let k = nil_right q p both in rw (m, k, is) (Twice s refl refl refl refl)
-spread (Some s) [] [] (r ∷ n) q p e =
-    let more : n ++ (q ++ p) ≡ [] = cc in let is : r ≡ s = cc in
-    let both = nil_right n (q ++ p) more in
-    let j = nil_left n (q ++ p) more in let m = nil_left q p both in let k = nil_right q p both in rw (j, m, k, is) (On_way s refl refl refl)
-spread (Some s) [] (r ∷ w) n q p e =
-    let most : w ++ (n ++ (q ++ p)) ≡ [] = cc in let is : r ≡ s = cc in
-    let more = nil_right w (n ++ (q ++ p)) most in
-    let both = nil_right n (q ++ p) more in
-    let i = nil_left w (n ++ (q ++ p)) most in let j = nil_left n (q ++ p) more in let m = nil_left q p both in let k = nil_right q p both in
-    rw (i, j, m, k, is) (On_way s refl refl refl)
-spread (Some s) (r ∷ g) w n q p e =
-    let all : g ++ (w ++ (n ++ (q ++ p))) ≡ [] = cc in let is : r ≡ s = cc in
-    let most = nil_right g (w ++ (n ++ (q ++ p))) all in
-    let more = nil_right w (n ++ (q ++ p)) most in
-    let both = nil_right n (q ++ p) more in
-    let i = nil_left w (n ++ (q ++ p)) most in let j = nil_left n (q ++ p) more in let m = nil_left q p both in let k = nil_right q p both in
-    rw (i, j, m, k, is) (Is_live s refl refl refl)
+spread (Some s) [] [] [] [] (r ∷ []) e = let is : r ≡ s = cc in rw is (Twice s refl refl refl refl)
+spread (Some s) [] [] [] (r ∷ q) p e = let k = none_of [] [] q p cc in let is : r ≡ s = cc in rw (k.2, k.3, is) (Twice s refl refl refl refl)
+spread (Some s) [] [] (r ∷ n) q p e = let k = none_of [] n q p cc in let is : r ≡ s = cc in rw (k.1, k.2, k.3, is) (On_way s refl refl refl)
+spread (Some s) [] (r ∷ w) n q p e = let k = none_of w n q p cc in let is : r ≡ s = cc in rw (k.0, k.1, k.2, k.3, is) (On_way s refl refl refl)
+spread (Some s) (r ∷ []) w n q p e = let k = none_of w n q p cc in let is : r ≡ s = cc in rw (k.0, k.1, k.2, k.3, is) (Is_live s refl refl refl)
+spread o g w n q p e = let never : ⊥ = cc in absurd never
 
 -- what is put, and what is on its way behind the door
 abbrev put_records : {R : Type 0} → Doorway R → List R

@@ -133,6 +133,10 @@ never_true e = cc
 pub cons_nil : {X Y : Type 0} {x : X} {xs : List X} → x ∷ xs ≡ [] → Y
 cons_nil e = cc
 
+pub cons_option_nil : {X : Type 0} (o : Option X) (xs : List X) → cons_option o xs ≡ [] → (o ≡ None) × (xs ≡ [])
+cons_option_nil None xs e = (refl, e)
+cons_option_nil (Some x) xs e = cc
+
 pub map_nil : {X Y : Type 0} (g : X → Y) (xs : List X) → map g xs ≡ [] → xs ≡ []
 map_nil g [] e = refl
 map_nil g (x ∷ xs) e = cons_nil e

@@ -1,10 +1,10 @@
 -- A row of another move shows the unit nothing: what it sends isn't seen, and it still keeps no packet of the unit.
+use Rattle.proof_machines.proofs.unit.Real.{none_if}
 use Rattle.proof_machines.proofs.EachLaws.{each_any, each_made, each_fails, none_passes}
-use Rattle.proof_machines.proofs.unit.Words.{◌≡◌, ℕ, Bool, true, false, None, Option, List, [], ◌∷◌, map, refl, ◌==◌, Answer, Said, Nothing}
-use Rattle.proof_machines.proofs.unit.Words.{Release, Give_back, by_if}
+use Rattle.proof_machines.proofs.unit.Words.{◌≡◌, ℕ, false, None, Option, List, [], ◌∷◌, map, refl, ◌==◌, Answer, Said, Nothing, Release, Give_back, by_if}
 use Rattle.move_op.specs.Table.{Put, Forward}
 use Rattle.proof_machines.proofs.unit.Real.{RPiece, Msg, M_event, M_put_no, M_install, M_fence_to, RPhase, Op, OperationTurn, r_words, put_to, forward_to}
-use Rattle.proof_machines.proofs.unit.Real.{sends_of, r_from_source, r_from_destination, Frame, where_true, seen, view, only_mine, sent_for}
+use Rattle.proof_machines.proofs.unit.Real.{sends_of, r_from_source, r_from_destination, Frame, seen, view, only_mine, sent_for}
 use Rattle.proof_machines.proofs.unit.Labels.{Each, each-append}
 use Rattle.proof_machines.proofs.unit.TableRows.{Hold, SaidHas, Any, any_phase}
 use Rattle.proof_machines.proofs.unit.RealRows.{Brings, BringsBack, from_source_holds, from_destination_holds}
@@ -21,10 +21,6 @@ view_nothing v y [] e = refl
 view_nothing v y (x ∷ xs) e =
     by_if (λ r. view v r ≡ []) (x.0 == y) (let none = e.0 in rw none (view_nothing v y xs e.1)) (view_nothing v y xs e.1)
 
-unseen_if : {X : Type 0} (b : Bool) (x : X) → b ≡ false → where_true b x ≡ None
-unseen_if true x e = let never : true ≡ false = e in cc
-unseen_if false x e = refl
-
 -- a packet of another unit
 abbrev pub Other : Frame → ℕ → Type 0
 Other v p = v.mine p ≡ false
@@ -32,13 +28,13 @@ Other v p = v.mine p ≡ false
 module _ {R : Type 0} (v : Frame) (o : Op) (other : (o.num == v.move) ≡ false) where
   said_unseen : (said : Said ℕ (RPiece R)) → SaidHas (Other v) (Any (RPiece R)) said → Each (Unseen v) (sends_of o said)
   said_unseen Nothing h = tt
-  said_unseen (Put ps) h = each_made _ (put_to o) (λ p _. unseen_if (o.num == v.move) _ other) ps (each_any ps)
-  said_unseen (Forward p) h = (unseen_if (v.mine p) _ h, tt)
+  said_unseen (Put ps) h = each_made _ (put_to o) (λ p _. none_if (o.num == v.move) _ other) ps (each_any ps)
+  said_unseen (Forward p) h = (none_if (v.mine p) _ h, tt)
   said_unseen (Release f) h = each-append (Unseen {R = R} v) (map (forward_to o.dst) f) ((0, M_install o.num o.src o.dst) ∷ [])
-      (each_made _ _ (λ p off. unseen_if (v.mine p) _ off) f h) (unseen_if (o.num == v.move) _ other, tt)
+      (each_made _ _ (λ p off. none_if (v.mine p) _ off) f h) (none_if (o.num == v.move) _ other, tt)
   said_unseen (Give_back f) h = each-append (Unseen {R = R} v) (map (forward_to o.src) f) ((0, M_fence_to o.num o.src) ∷ [])
-      (each_made _ _ (λ p off. unseen_if (v.mine p) _ off) f h) (unseen_if (o.num == v.move) _ other, tt)
-  said_unseen said h = (unseen_if (o.num == v.move) _ other, tt)
+      (each_made _ _ (λ p off. none_if (v.mine p) _ off) f h) (none_if (o.num == v.move) _ other, tt)
+  said_unseen said h = (none_if (o.num == v.move) _ other, tt)
 
   all_quiet : (f : List ℕ) → only_mine v f ≡ []
       → Hold (r_words o f) (Other v) (Any (RPiece R)) (Any Answer) (Any (Option Answer)) (Is_quiet v) (Is_quiet v)

@@ -7,6 +7,7 @@ use Rattle.proof_machines.proofs.unit.Words.{Enable, Stream, Delete, Put, Restor
 use Rattle.proof_machines.proofs.unit.Words.{Fence_to, Install, Stray, Ended, Phase, ControllerTurn, Unit}
 use Rattle.std.specs.FinMap.{find}
 pub use Rattle.proof_machines.proofs.Tests.{where_true}
+use Rattle.proof_machines.proofs.Tests.{by_if}
 use Rattle.std.specs.List.{filter, filter_map, flat_map}
 pub use Rattle.std.specs.List.{cons_option as add}
 use Rattle.move_op.specs.Table as said
@@ -143,6 +144,11 @@ see v p = record { own = record_at v.unit p.chunks; last = p.last }
 
 abbrev pub sends_to : {R : Type 0} → Frame → ℕ → (Where → Item R) → Item R
 sends_to v to item = if to == v.from then item At_a else if to == v.to then item At_b else Stray
+
+-- what holds of an item to each side, and of a stray one, holds of the one that is sent
+pub sent_either : {R : Type 0} (P : Item R → Type 0) (v : Frame) (to : ℕ) (item : Where → Item R) → ((w : Where) → P (item w)) → P Stray
+    → P (sends_to v to item)
+sent_either P v to item each stray = by_if P (to == v.from) (each At_a) (by_if P (to == v.to) (each At_b) stray)
 
 abbrev pub seen : {R : Type 0} → Frame → Msg R → Option (Item R)
 seen v (M_enable o r) = where_true (o == v.move) (Enable r)

@@ -4,7 +4,8 @@ use Rattle.proof_machines.proofs.unit.Words.{◌≡◌, ℕ, Bool, true, false, 
 use Rattle.proof_machines.proofs.unit.Words.{At_b, At_c, Steps, Item, Carry, Pass, Forward, Fence_to, Stray, Inst, Phase, Passing, Ending, Undoing, Over, State}
 use Rattle.proof_machines.proofs.unit.Words.{firsts, nil_left, nil_right, Stage, At_rest, Streams, Is_shut, Is_agreed, Laying, Turned, Fenced_a, Ending_b}
 use Rattle.proof_machines.proofs.unit.Words.{Fence_b, Turned_loose, Fenced_loose, Ending_loose, Fence_loose, Fenced_b, Moved, shape, path, all_of, to_a, to_b}
-use Rattle.proof_machines.proofs.unit.Path.{passes_in, carries, events_in, forwards, path_of, path_is, no_passes, all_carries, no_carries}
+use Rattle.proof_machines.proofs.unit.Path.{passes_in, carries, events_in, forwards, places, none_before, HasNone, none_of, path_of, path_is, no_passes}
+use Rattle.proof_machines.proofs.unit.Path.{all_carries, no_carries}
 use Rattle.proof_machines.proofs.unit.DestinationUnits.{strip, DestinationUnit, shape_beside}
 use Rattle.proof_machines.proofs.unit.Away.{Away, shape_away}
 use Rattle.proof_machines.proofs.unit.Rests.{is_over}
@@ -17,10 +18,6 @@ use Rattle.std.proofs.lemmas.List.Folds.{list_all-append}
 -- what an instance holds, and behind it what comes to it by the rules
 abbrev pub at_side : {R : Type 0} → Inst R → List (Item R) → List ℕ
 at_side i link = i.held ++ carries link
-
--- the path, with what stands at instances in this order
-abbrev pub places : {R : Type 0} → State R → List ℕ → List ℕ
-places x last = passes_in x.sa ++ (passes_in x.sb ++ (forwards x.cs ++ (x.store ++ (events_in x.ac ++ last))))
 
 -- one of two lists has nothing
 pub data OneOf (xs ys : List ℕ) : Type 0 where
@@ -145,51 +142,6 @@ stage_stands F s = record {
   released = released_at F s;
   last = last_at F s;
 }
-
--- a path that has nothing has none at its first places, and none at its last
-record NoneBefore {R : Type 0} (x : State R) (last : List ℕ) : Type 0 where
-  passes_a : passes_in x.sa ≡ []
-  passes_b : passes_in x.sb ≡ []
-  forwards_s : forwards x.cs ≡ []
-  store : x.store ≡ []
-  events_a : events_in x.ac ≡ []
-  rest : last ≡ []
-
-none_before : {R : Type 0} (x : State R) (last : List ℕ) → places x last ≡ [] → NoneBefore x last
-none_before x last p0 =
-    let p1 = nil_right (passes_in x.sa) _ p0 in
-    let p2 = nil_right (passes_in x.sb) _ p1 in
-    let p3 = nil_right (forwards x.cs) _ p2 in
-    let p4 = nil_right x.store _ p3 in
-    record {
-      passes_a = nil_left (passes_in x.sa) _ p0;
-      passes_b = nil_left (passes_in x.sb) _ p1;
-      forwards_s = nil_left (forwards x.cs) _ p2;
-      store = nil_left x.store _ p3;
-      events_a = nil_left (events_in x.ac) _ p4;
-      rest = nil_right (events_in x.ac) _ p4;
-    }
-
--- A stage without any packet of the unit has none anywhere.
-record HasNone {R : Type 0} (x : State R) : Type 0 where
-  before : NoneBefore x (x.a.held ++ (carries x.sa ++ (x.b.held ++ carries x.sb)))
-  held_a : x.a.held ≡ []
-  carries_a : carries x.sa ≡ []
-  held_b : x.b.held ≡ []
-  carries_b : carries x.sb ≡ []
-
-none_of : {R : Type 0} (x : State R) → path_of x ≡ [] → HasNone x
-none_of x none =
-    let before = none_before x (x.a.held ++ (carries x.sa ++ (x.b.held ++ carries x.sb))) none in
-    let p1 = nil_right x.a.held _ before.rest in
-    let p2 = nil_right (carries x.sa) _ p1 in
-    record {
-      before = before;
-      held_a = nil_left x.a.held _ before.rest;
-      carries_a = nil_left (carries x.sa) _ p1;
-      held_b = nil_left x.b.held _ p2;
-      carries_b = nil_right x.b.held _ p2;
-    }
 
 bare_none : {R : Type 0} (F : Steps R) (s : Stage F) → all_of s ≡ [] → HasNone (shape F s)
 bare_none F s bare = none_of (shape F s) (path_is F s ∙ nil_right (firsts (shape F s).done) (path s) bare)
