@@ -3,7 +3,7 @@ use Rattle.nf_net.proofs.Words.{◌≡◌, ℕ, ◌+◌, ◌<◌, ◌≤◌, Boo
 use Rattle.nf_net.proofs.Words.{subst, arith, if◌then◌else◌, ◌&&◌, ◌==◌, nat_lt, slice_get, Global, filter, filter_map, Decides-eqb, slice_get_within}
 use Rattle.nf_net.proofs.Words.{slice_get-get_or, Filter, Packet, FunctionLaws, Semantics, unit_at, same_unit-true, Target, Order, Msg, Note, instance_node}
 use Rattle.nf_net.proofs.Words.{is_there, Choice, Network, IsRun, is_done, run, queue_at, at, Each, firsts, nil_right, same_of, none_in, exactly, IsSys, done_u}
-use Rattle.nf_net.proofs.Words.{fold_runs, not_both, AtEnd, OpenShare, find_share, moves_of, olds, ShareRests, EndsAll, At_share, end_all, WhereAll}
+use Rattle.nf_net.proofs.Words.{not_both, AtEnd, OpenShare, find_share, moves_of, olds, ShareRests, EndsAll, At_share, end_all, WhereAll}
 use Rattle.nf_net.proofs.Words.{Apart_from_shares, Under_share, Config, Node, order_numbered, ends_last, IsInput, answers_of, times_installed, arrivals_in}
 use Rattle.nf_net.proofs.Words.{is_loose, owner, unit_numbered, node_step, node_ready, node_ended, is_of, arrived_of, processed_of, live_in, live_at}
 use Rattle.nf_net.proofs.Words.{started_with, unit_fits, is_sys, real_share, target_node, Given, place, GenuinePacket, S, A, shown, came_by, Joined, done_same}
@@ -138,7 +138,7 @@ module _ {R : Type 0} (f : Semantics R) (c : Config) (items : List Msg) (is : Is
 
         at_target : (r : R) → fold f c items None (processed_of f c items u w.log) ≡ Some r → live_at w (j.world.target u - 2) u ≡ Some r
         at_target r h = by_record r h (λ has. live_same (j.world.target u) e.two (has.few e.two) (Some r)
-            (e.live ∙ fold_runs (S f g).F None e.ran ∙ ap (readings.fold (S f g).F None) (sym e.done) ∙ folds r h))
+            (e.live ∙ ap (readings.fold (S f g).F None) (sym e.done) ∙ folds r h))
 
         moves_ended : Ended
         moves_ended = record {

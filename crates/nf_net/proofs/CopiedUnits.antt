@@ -2,14 +2,14 @@
 -- that were processed, and no other instance has anything of it.
 use Rattle.nf_net.proofs.Words.{◌≡◌, ℕ, ◌<◌, ◌≤◌, inl, inr, true, false, Some, None, List, [], ◌∷◌, length, refl, sym, ap, ◌∙◌, subst, arith, if◌then◌else◌}
 use Rattle.nf_net.proofs.Words.{◌==◌, slice_get, is_some, Decides-eqb, slice_get-get_or, Filter, Semantics, takes, same_unit-true, Msg, Note, instance_node}
-use Rattle.nf_net.proofs.Words.{CopyState, Copy, Move, Network, queue_at, self, shape, each_map, Open, fold_runs, unit_share, as_share, moves_of, seeing, Where}
+use Rattle.nf_net.proofs.Words.{CopyState, Copy, Move, Network, queue_at, self, shape, each_map, Open, unit_share, as_share, moves_of, seeing, Where}
 use Rattle.nf_net.proofs.Words.{WhereAll, Apart_from_shares, Under_share, Config, Node, is_of, processed_of, IsInput, dones_in, done_where, owner}
 use Rattle.nf_net.proofs.Words.{unit_numbered, live_at, live_in, is_whole, takes_same, unit_fits, is_sys, Given, S, A, came_by, Joined, Scene, AreApart}
 use Rattle.nf_net.proofs.Words.{AllApart, done_same, given, Unit, Instance, split}
 use Rattle.std.specs.Prelude.{map}
 use Rattle.std.specs.FinMap as finite
 use Rattle.actor_net.proofs.EnabledChoices.{at as at_node}
-use Rattle.proof_machines.proofs.unit.Machine.{runs}
+use Rattle.proof_machines.proofs.unit.Machine.{after}
 use Rattle.proof_machines.proofs.net.Elsewhere.{Resting, where_rests}
 use Rattle.proof_machines.proofs.net.GlobalAll.{TakesSome}
 use Rattle.proof_machines.proofs.net.Readings as readings
@@ -120,8 +120,7 @@ module _ {F R : Type 0} (f : Semantics R) (c : Config) (items : List Msg) (is : 
         let same : (k == r.owner) ≡ true = ap (λ q. k == q) at_owner ∙ self k in
         ap (live_in u) found
         ∙ ap (λ x. finite.get x.live u) (j.shown_is.instances k (omega arith) few).outline_is
-        ∙ subst (λ t. finite.get (j.world.inst k).live u ≡ (if t then runs (S f g).F None r.done else None)) same (r.rest.live k)
-        ∙ fold_runs (S f g).F None r.done
+        ∙ subst (λ t. finite.get (j.world.inst k).live u ≡ (if t then after (S f g).F r.done else None)) same (r.rest.live k)
         ∙ ap (readings.fold (S f g).F None) (sym r.rest.done)
         ∙ ap (readings.fold (S f g).F None) (done_same f c items is n w j u)
         ∙ sym (fold_is f c items is None (processed_of f c items u w.log))

@@ -3,13 +3,13 @@
 use Rattle.nf_net.proofs.Words.{◌≡◌, ◌≢◌, ℕ, ◌<◌, ◌≤◌, true, false, Option, Some, None, List, [], ◌∷◌, ◌++◌, map, refl, sym, ap, ◌∙◌, subst, arith}
 use Rattle.nf_net.proofs.Words.{if◌then◌else◌, ◌==◌, ◌-◌, ◌||◌, nat_lt, slice_get, option_to_list, flat_map, Global, ltb-false, or_right, nat_tests}
 use Rattle.nf_net.proofs.Words.{Decides-eqb, Decides-ltb, slice_get_past, FunctionLaws, Semantics, Msg, controller_node, instance_node, is_among, Choice, IsRun}
-use Rattle.nf_net.proofs.Words.{on_link, run, State, idle, nil_left, firsts, Kept, third_silent, seat_shape, seat_path, Seeing, node_at, side_place, fold_runs}
-use Rattle.nf_net.proofs.Words.{seat_parts, same_done, WantShare, WhereAll, Apart_from_shares, Under_share, Config, IsInput, job_of, arrivals_in, IsFront}
+use Rattle.nf_net.proofs.Words.{on_link, run, State, idle, nil_left, firsts, Kept, third_silent, seat_shape, seat_path, Seeing, node_at, side_place}
+use Rattle.nf_net.proofs.Words.{seat_parts, WantShare, WhereAll, Apart_from_shares, Under_share, Config, IsInput, job_of, arrivals_in, IsFront}
 use Rattle.nf_net.proofs.Words.{processed_of, owner, node_step, node_ready, started_with, live_in, live_at, given_in, removed_by, AllApart, is_sys, run_beside}
 use Rattle.nf_net.proofs.Words.{done_same, given, Given, S, A, came_by, Unit, split}
 use Rattle.std.specs.FinMap as finite
 use Rattle.proof_machines.proofs.unit.Machine.{after}
-use Rattle.proof_machines.proofs.unit.Bare.{firsts_nil}
+use Rattle.proof_machines.proofs.unit.Lists.{map_nil}
 use Rattle.proof_machines.proofs.unit.Kept.{Nowhere, Is_live, On_way, Twice, lives, on_way}
 use Rattle.proof_machines.proofs.unit.ToRemove.{ToRemove, Is_given, Is_named, still_to_remove, third_live}
 use Rattle.proof_machines.proofs.unit.SeatLaws.{seat_kept}
@@ -100,7 +100,7 @@ module _ {F R : Type 0} (here : Reached F R) (in_turn : IsFront (arrivals_in her
   owned : (r : R) → after (S f g).F x.done ≡ Some r → IsOwned here in_turn u at apart
   owned r some = by_came here in_turn u at apart
       (λ all.
-      let none : x.done ≡ [] = firsts_nil x.done (nil_left (firsts x.done) (seat_path k.seat) (sym (seat_parts (S f g).F k.seat) ∙ all)) in
+      let none : x.done ≡ [] = map_nil _ x.done (nil_left (firsts x.done) (seat_path k.seat) (sym (seat_parts (S f g).F k.seat) ∙ all)) in
       never (after (S f g).F x.done) r (ap (after (S f g).F) none) some)
       (λ h. h)
 
@@ -188,8 +188,7 @@ module _ {F R : Type 0} (here : Reached F R) (in_turn : IsFront (arrivals_in her
   -- the machine's record is the fold of what was processed
   fold_same : after (S f g).F x.done ≡ fold f c items None (processed_of f c items u w.log)
   fold_same =
-      fold_runs (S f g).F None x.done
-      ∙ ap (readings.fold (S f g).F None) (sym (same_done (S f g) z j.world.done ∙ k.holds.done) ∙ done_same f c items is n w j u)
+      ap (readings.fold (S f g).F None) (sym k.holds.done ∙ done_same f c items is n w j u)
       ∙ sym (fold_is f c items is None (processed_of f c items u w.log))
 
   apart_stands : HasOneRecord f w u (fold f c items None (processed_of f c items u w.log))

@@ -139,9 +139,8 @@ pub use Rattle.proof_machines.proofs.net.Holding.{OpLabel, Seeing, node_at, plac
 pub use Rattle.proof_machines.proofs.net.MemberSteps.{does}
 pub use Rattle.proof_machines.proofs.net.Net.{IsSys, Open, Sys, inst_step, Mv, find_op, seen, MoveAsked, find_rule, held_of, World}
 pub use Rattle.proof_machines.proofs.net.NewMessages.{new_head}
-pub use Rattle.proof_machines.proofs.net.Readings.{fold_runs, not_both, seat_parts}
+pub use Rattle.proof_machines.proofs.net.Readings.{not_both, seat_parts}
 pub use Rattle.proof_machines.proofs.net.Rest.{done_u, none_mine, NothingOf, RestRule, RestOp}
-pub use Rattle.proof_machines.proofs.net.RestingSeats.{same_done}
 pub use Rattle.proof_machines.proofs.net.ShareLabels.{label_of, ShareLabel}
 pub use Rattle.proof_machines.proofs.net.ShareLists.{found_each}
 pub use Rattle.proof_machines.proofs.net.ShareViews.{unit_share, as_share, share_expect, share_seen, share_items, own_at}
@@ -160,7 +159,7 @@ pub use Rattle.proof_machines.proofs.share.Path.{forwarded, diverted}
 pub use Rattle.proof_machines.proofs.share.Share.{Ran, UnitShare, View, has, mine_in}
 pub use Rattle.proof_machines.proofs.share.Stages.{shape, Stage, served, processed}
 pub use Rattle.proof_machines.proofs.unit.Ends.{same_of}
-pub use Rattle.proof_machines.proofs.unit.Kept.{Kept, records_one, records_on}
+pub use Rattle.proof_machines.proofs.unit.Kept.{Kept, records_on}
 pub use Rattle.proof_machines.proofs.Tests.{split, either_way}
 pub use Rattle.proof_machines.proofs.unit.Labels.{Each, each-append, each_map}
 pub use Rattle.proof_machines.proofs.unit.Lists.{firsts}
@@ -172,7 +171,7 @@ pub use Rattle.proof_machines.proofs.unit.Real.{M_fenced, M_install, M_fence_to,
 pub use Rattle.proof_machines.proofs.unit.Real.{only_mine}
 pub use Rattle.proof_machines.proofs.unit.Rests.{exactly, behind_nil, is_over}
 pub use Rattle.proof_machines.proofs.unit.Seats.{seat_shape, seat_path, UnitSeat, seat_all}
-pub use Rattle.proof_machines.proofs.unit.Sides.{is_known}
+pub use Rattle.proof_machines.proofs.unit.Sides.{for_switch}
 pub use Rattle.proof_machines.proofs.unit.Stages.{IsOrderedAs}
 pub use Rattle.proof_machines.proofs.unit.ToRemove.{third_silent}
 pub use Rattle.proof_machines.proofs.unit.UnitPieces.{nil_right, nil_left, records}

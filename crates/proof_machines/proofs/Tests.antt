@@ -1,6 +1,10 @@
--- A test is told apart: what is to be shown where it passes, and where it doesn't.
-use Rattle.std.proofs.Common.{◌≡◌, Bool, true, false, refl}
+-- A test is told apart: what is to be shown where it passes, and where it doesn't; and what is there only where it passes.
+use Rattle.std.proofs.Common.{◌≡◌, Bool, true, false, Option, Some, None, refl}
 use Rattle.std.specs.Prelude.{if◌then◌else◌}
+
+abbrev pub where_true : {X : Type 0} → Bool → X → Option X
+where_true true x = Some x
+where_true false x = None
 
 pub either_way : {G : Type 0} (b : Bool) → (b ≡ true → G) → (b ≡ false → G) → G
 either_way true passes fails = passes refl

@@ -32,7 +32,6 @@ pub mod SeatLaws
 pub mod Between
 pub mod Quiet
 pub mod Pairs
-pub mod NetViews
 pub mod OneCopy
 pub mod Fresh
 pub mod Sides

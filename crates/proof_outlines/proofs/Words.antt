@@ -119,7 +119,7 @@ pub use Rattle.switch_rules.specs.Rules.{AreFilters, any, first_match, opened, r
 pub use Rattle.switch_rules.specs.declared.target.Target.{Target}
 pub use Rattle.proof_machines.proofs.Tests.{by_if, split, either_way}
 pub use Rattle.proof_machines.proofs.net.Copies.{have, copies, one_copy, one_copy_back, event_open}
-pub use Rattle.proof_machines.proofs.net.Ctrl.{each_set, each_found, find_close, find_set, find_write_other}
+pub use Rattle.proof_machines.proofs.net.Ctrl.{each_found, find_set, find_write_other}
 pub use Rattle.proof_machines.proofs.net.GlobalAll.{TakesSome}
 pub use Rattle.proof_machines.proofs.net.Net.{Open, find_op, behind, MoveAsked, new_op, begin_sends, meets_any, links_after, close_op, set_op, write_op, num_of}
 pub use Rattle.proof_machines.proofs.net.Net.{found, numbered, sw_target, inst_step, put, everything, is_free, at_node, Sys, IsSys, Mv, NumberedInstance}

@@ -1,7 +1,8 @@
 -- What the chunks of one unit spell, among good chunks: the unit's record, if they have it, and once.
+use Rattle.proof_machines.proofs.unit.UnitPieces.{cons_option_is}
 use Rattle.nf_net.proofs.Words.{◌≡◌, ℕ, ◌+◌, ◌≤◌, true, false, cond, Option, Some, List, [], ◌∷◌, ◌++◌, map, refl, sym, ap, ◌∙◌, subst, arith, if◌then◌else◌}
 use Rattle.nf_net.proofs.Words.{is_some, option_to_list, flat_map, option_map_or, map-append, filter-append, Chunk, Semantics, Piece, units_in, same_unit}
-use Rattle.nf_net.proofs.Words.{is_among, spelled, same_unit-true, records, records_one, Each, each_map, Frame, record_at, is_chunk_of, spelled_of, IsChunk}
+use Rattle.nf_net.proofs.Words.{is_among, spelled, same_unit-true, records, Each, each_map, Frame, record_at, is_chunk_of, spelled_of, IsChunk}
 use Rattle.nf_net.proofs.Words.{units_same, entries, outline_piece, Given, place, AreGoodChunks, Unit, split}
 use Rattle.std.specs.Prelude.{filter}
 use Rattle.move_op.specs.Move.{chunks_of}
@@ -79,4 +80,4 @@ module _ {R : Type 0} (f : Semantics R) (g : Given) (u : Unit) where
       (good_spelled p.chunks h.0 ∙ ap (λ k. as_spelled u (option_to_list (record_at k (entries f p.chunks)))) (sym at))
       ∙ ap (λ xs. as_spelled u (option_to_list (record_at v.unit (entries f p.chunks))) ++ xs) (pieces_spelled v at ps h.1)
       ∙ sym (map-append (λ r. Some (u, r)) (option_to_list (record_at v.unit (entries f p.chunks))) (records (map (see v) (map (outline_piece f) ps))))
-      ∙ ap (as_spelled u) (sym (records_one (see v (outline_piece f p)) (map (see v) (map (outline_piece f) ps))))
+      ∙ ap (as_spelled u) (sym (cons_option_is _ (records (map (see v) (map (outline_piece f) ps)))))

@@ -1,10 +1,10 @@
 -- What a unit sees of a link is what the chunks there spell of it, and of which units the pieces and the Deletes there are.
 use Rattle.nf_net.proofs.Words.{◌≡◌, ℕ, Bool, true, false, Option, Some, None, List, [], ◌∷◌, ◌++◌, append-nil, refl, sym, ap, ◌∙◌, if◌then◌else◌, ◌==◌, ◌&&◌}
-use Rattle.nf_net.proofs.Words.{◌||◌, is_some, option_map, option_to_list, cons_option, filter_map, flat_map, map-append, list_any-append, or-false, Semantics}
-use Rattle.nf_net.proofs.Words.{same_unit, is_among, spelled, Command, Order, Msg, At_a, At_b, Carry, Event, Fence_to, Install, Stray, records_on, record_at}
-use Rattle.nf_net.proofs.Words.{M_stream, M_fenced, M_install, M_fence_to, Frame, where_true, sends_to, add, Mv, seen, MoveAsked, Seeing, frame, Any, New}
-use Rattle.nf_net.proofs.Words.{WantShare, S_asked, S_shared, olds, OpenShare, chunks_in, given_in, removed_by, spelled_of, want_of, asked_of, want_share_of}
-use Rattle.nf_net.proofs.Words.{Given, place, S, shown, Label, FromController, ToController, Unit, Mark, Target, split}
+use Rattle.nf_net.proofs.Words.{◌||◌, is_some, option_map, option_to_list, cons_option, filter_map, flat_map, map-append, list_any-append, list_any, or-false}
+use Rattle.nf_net.proofs.Words.{Semantics, same_unit, is_among, spelled, Command, Order, Msg, At_a, At_b, Carry, Event, Fence_to, Install, Stray, records_on}
+use Rattle.nf_net.proofs.Words.{record_at, M_stream, M_fenced, M_install, M_fence_to, Frame, where_true, sends_to, add, Mv, seen, MoveAsked, Seeing, frame, Any}
+use Rattle.nf_net.proofs.Words.{New, WantShare, S_asked, S_shared, olds, OpenShare, chunks_in, given_in, removed_by, spelled_of, want_of, asked_of}
+use Rattle.nf_net.proofs.Words.{want_share_of, Given, place, S, shown, Label, FromController, ToController, Unit, Mark, Target, split}
 use Rattle.actor_net.proofs.WeightLaws.{Each}
 use Rattle.proof_machines.proofs.unit.Machine.{Where, Item, Pass, Fence, Enable, Stream, Delete, Put, Restore, Enabled, Piece, Deleted, Put_ok, Put_no}
 use Rattle.proof_machines.proofs.unit.Machine.{Restored, Fenced, Forward}
@@ -18,7 +18,8 @@ use Rattle.proof_machines.proofs.net.Net.{In_packet, Asked, Carry_on, Pass_on, F
 use Rattle.proof_machines.proofs.net.Holding as holding
 use Rattle.proof_machines.proofs.net.Shares.{Old}
 use Rattle.nf_net.proofs.paths.ChunkLemmas.{as_spelled, spelled-append, good_spelled, good_units}
-use Rattle.nf_net.proofs.paths.PathLinks.{see_of, view, seen_more}
+use Rattle.proof_machines.proofs.unit.UnitPieces.{cons_option_is}
+use Rattle.nf_net.proofs.paths.PathLinks.{picked-add, see_of, view, seen_more}
 
 -- what a list of items has of a unit's record
 pub record Reading (R : Type 0) : Type 0 where
@@ -34,22 +35,11 @@ module _ {R : Type 0} where
   nothing = reading [] false false
 
   abbrev pub read : List (Item R) → Reading R
-  read xs = reading (records_on xs) (gives xs) (deletes xs)
+  read xs = reading (records_on xs) (list_any gives xs) (list_any deletes xs)
 
-  -- an item that is seen or not, before others
-  records-add : (o : Option (Item R)) (xs : List (Item R)) → records_on (add o xs) ≡ records_on (add o []) ++ records_on xs
-  records-add None xs = refl
-  records-add (Some x) xs = ap (λ v. v ++ records_on xs) (sym (append-nil (option_to_list (record_in x))))
-
-  gives-add : (o : Option (Item R)) (xs : List (Item R)) → gives (add o xs) ≡ gives (add o []) || gives xs
-  gives-add None xs = refl
-  gives-add (Some (Piece h)) xs = ap (λ v. v || gives xs) (sym (or-false (is_some h.own)))
-  gives-add (Some x) xs = refl
-
-  deletes-add : (o : Option (Item R)) (xs : List (Item R)) → deletes (add o xs) ≡ deletes (add o []) || deletes xs
-  deletes-add None xs = refl
-  deletes-add (Some (Delete own)) xs = ap (λ v. v || deletes xs) (sym (or-false own))
-  deletes-add (Some x) xs = refl
+  tested-add : (p : Item R → Bool) (o : Option (Item R)) (xs : List (Item R)) → list_any p (add o xs) ≡ list_any p (add o []) || list_any p xs
+  tested-add p None xs = refl
+  tested-add p (Some x) xs = list_any-append p (x ∷ []) xs
 
   -- an item that is seen where a test is true
   by_test : (b : Bool) (x : Item R) (v : Reading R) → read (x ∷ []) ≡ v → (b ≡ false → nothing ≡ v) → read (add (where_true b x) []) ≡ v
@@ -87,10 +77,10 @@ module _ {R : Type 0} (f : Semantics R) (g : Given) (z : Seeing) (es : List Open
   read_shown (Some (Old a)) = read_msg a
   read_shown (Some (New a)) = nothing
 
-  own_brought : (b : Bool) (x : Item R) (o : Option R) → read (x ∷ []) ≡ reading (option_to_list o ++ []) false false → (b ≡ false → o ≡ None)
+  own_brought : (b : Bool) (x : Item R) (o : Option R) → read (x ∷ []) ≡ reading (cons_option o []) false false → (b ≡ false → o ≡ None)
       → read (add (where_true b x) []) ≡ brought o
   own_brought b x o is none =
-      by_test b x (brought o) (is ∙ ap (λ rs. reading rs false false) (append-nil (option_to_list o))) (λ off. ap brought (sym (none off)))
+      by_test b x (brought o) (is ∙ ap (λ rs. reading rs false false) (cons_option_is o [] ∙ append-nil _)) (λ off. ap brought (sym (none off)))
 
   -- it is what the unit sees of it
   seen_read : (i : ℕ) (m : net.Msg R) → holding.Label (S f g) z i m → read (add (seen its m) []) ≡ read_msg m
@@ -100,8 +90,8 @@ module _ {R : Type 0} (f : Semantics R) (g : Given) (z : Seeing) (es : List Open
   seen_read i (Pass_on p) l = bare (its.mine p) (Pass p) refl
   seen_read i (Fence_on n) l = bare (n == its.move) Fence refl
   seen_read i (Mv x (M_piece n p)) l =
-      let whole : (o : Option R) → reading (option_to_list o ++ []) (is_some o || false) false ≡ reading (option_to_list o) (is_some o) false = λ o.
-      elim o as (λ v. reading (option_to_list v ++ []) (is_some v || false) false ≡ reading (option_to_list v) (is_some v) false)
+      let whole : (o : Option R) → reading (cons_option o []) (is_some o || false) false ≡ reading (option_to_list o) (is_some o) false = λ o.
+      elim o as (λ v. reading (cons_option v []) (is_some v || false) false ≡ reading (option_to_list v) (is_some v) false)
       [ None ↦ refl | Some r ↦ refl ] in
       by_test (n == its.move) (Piece (see its p)) (read_msg (Mv x (M_piece n p))) (whole (record_at u p.chunks))
       (λ off. ap (λ o. reading (option_to_list o) (is_some o) false) (sym (l.1 off)))
@@ -184,8 +174,8 @@ module _ {R : Type 0} (f : Semantics R) (g : Given) (z : Seeing) (es : List Open
   -- and so of a link
   pub record AreSpelled (ms : List Msg) (xs : List (Item R)) : Type 0 where
     pub chunks : spelled_of f u (flat_map chunks_in ms) ≡ as_spelled u (records_on xs)
-    pub given : is_among (flat_map given_in ms) u ≡ gives xs
-    pub removed : is_among (flat_map removed_by ms) u ≡ deletes xs
+    pub given : is_among (flat_map given_in ms) u ≡ list_any gives xs
+    pub removed : is_among (flat_map removed_by ms) u ≡ list_any deletes xs
 
   pub are_spelled : (s r : ℕ) (ms : List Msg) → Each (Label f g s r) ms → labels.Each (holding.Label (S f g) z s) (olds (filter_map (shown f g) ms))
       → AreSpelled ms (view f g z es ms)
@@ -203,13 +193,13 @@ module _ {R : Type 0} (f : Semantics R) (g : Given) (z : Seeing) (es : List Open
             ∙ ap (λ v. v ++ spelled_of f u (flat_map chunks_in ms)) (one.chunks ∙ ap (λ v. as_spelled u v.records) is)
             ∙ ap (λ v. as_spelled u (records_on (add o [])) ++ v) rest.chunks
             ∙ sym (map-append (λ x. Some (u, x)) (records_on (add o [])) (records_on xs))
-            ∙ ap (as_spelled u) (sym (records-add o xs) ∙ ap records_on (sym more));
+            ∙ ap (as_spelled u) (sym (picked-add _ o xs) ∙ ap records_on (sym more));
         given = list_any-append (same_unit u) (given_in m) (flat_map given_in ms)
             ∙ ap (λ b. b || is_among (flat_map given_in ms) u) (one.given ∙ ap (λ v. v.given) is)
-            ∙ ap (λ b. gives (add o []) || b) rest.given ∙ sym (gives-add o xs) ∙ ap gives (sym more);
+            ∙ ap (λ b. list_any gives (add o []) || b) rest.given ∙ sym (tested-add gives o xs) ∙ ap (list_any gives) (sym more);
         removed = list_any-append (same_unit u) (removed_by m) (flat_map removed_by ms)
             ∙ ap (λ b. b || is_among (flat_map removed_by ms) u) (one.removed ∙ ap (λ v. v.removed) is)
-            ∙ ap (λ b. deletes (add o []) || b) rest.removed ∙ sym (deletes-add o xs) ∙ ap deletes (sym more);
+            ∙ ap (λ b. list_any deletes (add o []) || b) rest.removed ∙ sym (tested-add deletes o xs) ∙ ap (list_any deletes) (sym more);
       }
 
 -- On other links there are no chunks.

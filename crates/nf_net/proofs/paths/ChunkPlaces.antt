@@ -2,7 +2,7 @@
 -- move, or among the pieces that the controller keeps.
 use Rattle.nf_net.proofs.Words.{◌≡◌, ◌≢◌, ℕ, zero, suc, ◌<◌, ◌≤◌, true, false, Option, Some, None, List, [], ◌∷◌, ◌++◌, map, get_or, refl, sym, ap, ◌∙◌, subst}
 use Rattle.nf_net.proofs.Words.{arith, if◌then◌else◌, ◌==◌, ◌&&◌, nat_lt, flat_map, ltb-false, nat_tests, Decides-eqb, Decides-ltb, map-append, Semantics}
-use Rattle.nf_net.proofs.Words.{stored_of, Piece, Door, Phase, Operation, Move, Copy, Share, on_link, State, records, records_on, records_one, Each, each_map}
+use Rattle.nf_net.proofs.Words.{stored_of, Piece, Door, Phase, Operation, Move, Copy, Share, on_link, State, records, records_on, Each, each_map}
 use Rattle.nf_net.proofs.Words.{expect, is_over, Op, Frame, see_phase, Open, find_op, each_found, Seeing, frame, OpLabel, olds, Node, Switch, on_links}
 use Rattle.nf_net.proofs.Words.{chunks_in, kept_in, kept_for, kept_by, spelled_of, Sees, but_shares, outline_phase, outline_piece, is_sys, given, Given, place}
 use Rattle.nf_net.proofs.Words.{S, AreGoodChunks, IsGoodPiece, HasPieces, node_of, FromController, ToController, Unit, split}
@@ -54,7 +54,7 @@ module _ {R : Type 0} (f : Semantics R) (g : Given) (v : Frame) where
   -- those of another move have nothing of it
   none_in : (ps : List (RPiece R)) → Each (Without u) ps → records (map (see v) ps) ≡ []
   none_in [] h = refl
-  none_in (p ∷ ps) h = let own = h.0 in let rest = none_in ps h.1 in records_one (see v p) (map (see v) ps) ∙ rw (own, rest) refl
+  none_in (p ∷ ps) h = let own = h.0 in let rest = none_in ps h.1 in rw (own, rest) refl
 
   pub none_kept : (ph : RPhase R) → Clean u ph → kept_records (see_phase v ph) ≡ []
   none_kept (Streaming fz fr came d) h = let a = none_in fz h.0 in let b = none_in fr h.1 in rw (a, b) refl

@@ -3,13 +3,12 @@
 use Rattle.nf_net.proofs.Words.{◌≡◌, ℕ, Bool, true, false, Option, Some, None, List, [], ◌∷◌, ◌++◌, refl, sym, ap, ◌∙◌, filter-append, if◌then◌else◌, ◌==◌}
 use Rattle.nf_net.proofs.Words.{◌&&◌, option_map, cons_option, filter, filter_map, flat_map, Chunk, Semantics, spelled, FullCell, Mark, Target, Filter, Command}
 use Rattle.nf_net.proofs.Words.{Order, Msg, instance_node, Carry, Event, Fence_to, Install, Stray, At_a, At_b, Frame, where_true, sends_to, add, passes_in}
-use Rattle.nf_net.proofs.Words.{events_in, is_known, seen, MoveAsked, Seeing, frame, Any, New, WantShare, S_asked, S_shared, EachNew, olds, OpenShare, NoShare}
-use Rattle.nf_net.proofs.Words.{passed_in, carried_in, forwarded_in, handed_over_in, diverted_in, number, want_of, asked_of, want_share_of, Given, place, S}
-use Rattle.nf_net.proofs.Words.{shown, Label, FromSwitch, ToSwitch, ToController, Unit, split}
+use Rattle.nf_net.proofs.Words.{events_in, for_switch, list_all, seen, MoveAsked, Seeing, frame, Any, New, WantShare, S_asked, S_shared, EachNew, olds}
+use Rattle.nf_net.proofs.Words.{OpenShare, NoShare, and_parts, passed_in, carried_in, forwarded_in, handed_over_in, diverted_in, number, want_of, asked_of}
+use Rattle.nf_net.proofs.Words.{want_share_of, Given, place, S, shown, Label, FromSwitch, ToSwitch, ToController, Unit, split}
 use Rattle.proof_machines.proofs.unit.Machine.{Item, Pass, Forward}
 use Rattle.std.proofs.lemmas.List.Elements.{filter_map-append}
 use Rattle.actor_net.proofs.WeightLaws.{Each}
-use Rattle.proof_machines.proofs.unit.NetViews.{items}
 use Rattle.proof_machines.proofs.unit.Path.{carries, forwards}
 use Rattle.proof_machines.proofs.net.Net as net
 use Rattle.proof_machines.proofs.net.NewMessages.{OnNew}
@@ -17,15 +16,15 @@ use Rattle.proof_machines.proofs.net.Shares.{Old}
 
 -- an item that is seen, or not, before others
 module _ {R : Type 0} where
-  picked-add : (pick : Item R → Option ℕ) (o : Option (Item R)) (xs : List (Item R))
+  pub picked-add : {X : Type 0} (pick : Item R → Option X) (o : Option (Item R)) (xs : List (Item R))
       → filter_map pick (add o xs) ≡ filter_map pick (add o []) ++ filter_map pick xs
   picked-add pick None xs = refl
   picked-add pick (Some x) xs = filter_map-append pick (x ∷ []) xs
 
-  known-add : (o : Option (Item R)) (xs : List (Item R)) → is_known (add o xs) ≡ true → (is_known (add o []) ≡ true) × (is_known xs ≡ true)
+  known-add : (o : Option (Item R)) (xs : List (Item R)) → list_all for_switch (add o xs) ≡ true
+      → (list_all for_switch (add o []) ≡ true) × (list_all for_switch xs ≡ true)
   known-add None xs e = (refl, e)
-  known-add (Some Stray) xs e = cc
-  known-add (Some x) xs e = (refl, e)
+  known-add (Some x) xs e = let both = and_parts (for_switch x) (list_all for_switch xs) e in (ap (λ b. b && true) both.0, both.1)
 
 module _ {R : Type 0} (f : Semantics R) (g : Given) (z : Seeing) (es : List OpenShare) where
   abbrev its : Frame
@@ -50,7 +49,7 @@ module _ {R : Type 0} (f : Semantics R) (g : Given) (z : Seeing) (es : List Open
     pass : filter mine (passed_in m) ≡ passes_in (add o [])
     carry : filter mine (carried_in m) ≡ carries (add o [])
     event : filter mine (handed_over_in m) ≡ events_in (add o [])
-    forward : is_known (add o []) ≡ true → filter mine (forwarded_in m) ≡ forwards (add o [])
+    forward : list_all for_switch (add o []) ≡ true → filter mine (forwarded_in m) ≡ forwards (add o [])
 
   -- packets that were handed on, that come by the rules, that are events, and that are on their way by the switch
   abbrev Packets : Type 0
@@ -172,7 +171,7 @@ module _ {R : Type 0} (f : Semantics R) (g : Given) (z : Seeing) (es : List Open
 
   -- and so has a link
   abbrev pub view : List Msg → List (Item R)
-  view ms = items (seen its) (olds (filter_map (shown f g) ms))
+  view ms = filter_map (seen its) (olds (filter_map (shown f g) ms))
 
   pub seen_more : (m : Msg) (ms : List Msg) → view (m ∷ ms) ≡ add (see_of (shown f g m)) (view ms)
   seen_more m ms = by_shown (shown f g m) refl
@@ -194,7 +193,7 @@ module _ {R : Type 0} (f : Semantics R) (g : Given) (z : Seeing) (es : List Open
     pub carry : filter mine (flat_map carried_in ms) ≡ carries xs
     pub event : filter mine (flat_map handed_over_in ms) ≡ events_in xs
     pub divert : filter mine (flat_map diverted_in ms) ≡ []
-    pub forward : is_known xs ≡ true → filter mine (flat_map forwarded_in ms) ≡ forwards xs
+    pub forward : list_all for_switch xs ≡ true → filter mine (flat_map forwarded_in ms) ≡ forwards xs
 
   pub are_read : (s r : ℕ) (ms : List Msg) → Each (Label f g s r) ms → EachNew (NoShare (S f g) z.unit es) (filter_map (shown f g) ms) → AreRead ms (view ms)
   are_read s r [] h k = record { pass = refl; carry = refl; event = refl; divert = refl; forward = λ _. refl }
@@ -215,7 +214,7 @@ module _ {R : Type 0} (f : Semantics R) (g : Given) (z : Seeing) (es : List Open
         divert = filter-append mine (diverted_in m) (flat_map diverted_in ms) ∙ ap (λ v. v ++ filter mine (flat_map diverted_in ms)) (msg_diverts m both.0)
             ∙ rest.divert;
         forward = λ t.
-            let known = known-add o xs (ap is_known (sym more) ∙ t) in
+            let known = known-add o xs (ap (list_all for_switch) (sym more) ∙ t) in
             filter-append mine (forwarded_in m) (flat_map forwarded_in ms) ∙ ap (λ v. v ++ filter mine (flat_map forwarded_in ms)) (one.forward known.0)
             ∙ ap (λ v. forwards (add o []) ++ v) (rest.forward known.1) ∙ sym (picked-add _ o xs) ∙ ap forwards (sym more);
       }

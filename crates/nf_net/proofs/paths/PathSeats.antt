@@ -4,7 +4,8 @@ use Rattle.nf_net.proofs.Words.{◌≡◌, ℕ, suc, ◌+◌, ◌*◌, ◌<◌, 
 use Rattle.nf_net.proofs.Words.{subst, arith, if◌then◌else◌, ◌==◌, ◌&&◌, nat_lt, slice_get, filter, filter_map, flat_map, nat_tests, Decides-ltb}
 use Rattle.nf_net.proofs.Words.{slice_get-get_or, filter-append, Semantics, stored_of, Msg, Note, instance_node, Operation, Move, Copy, Share, Network, on_link}
 use Rattle.nf_net.proofs.Words.{queue_at, at, EachOn, At_a, At_b, State, IsOrderedAs, Each, Op, only_mine, expect, passes_in, events_in, UnitSeat, seat_shape}
-use Rattle.nf_net.proofs.Words.{seat_all, is_known, Open, find_op, find_rule, held_of, seen, Seeing, frame, node_at, RuleLabel, EachNew, olds, OpenShare}
+use Rattle.nf_net.proofs.Words.{seat_all, for_switch, list_all, Open, find_op, find_rule, held_of, seen, Seeing, frame, node_at, RuleLabel, EachNew, olds}
+use Rattle.nf_net.proofs.Words.{OpenShare}
 use Rattle.nf_net.proofs.Words.{moves_of, NoShare, Config, Node, IsInput, is_loose, passed_in, carried_in, forwarded_in, handed_over_in, diverted_in, held_by}
 use Rattle.nf_net.proofs.Words.{arrived_of, Sees, but_shares, is_sys, Given, place, S, A, Label, FromSwitch, ToSwitch, ToController, shown, Joined, given, Unit}
 use Rattle.nf_net.proofs.Words.{Instance, split}
@@ -12,7 +13,6 @@ use Rattle.std.specs.FinMap as finite
 use Rattle.proof_machines.proofs.unit.Kept.{on_way}
 use Rattle.proof_machines.proofs.unit.Path.{carries, forwards, no_passes}
 use Rattle.proof_machines.proofs.unit.Between.{seat_at}
-use Rattle.proof_machines.proofs.unit.NetViews.{items as items_of}
 use Rattle.proof_machines.proofs.net.Holding.{IsController, Holds}
 use Rattle.proof_machines.proofs.net.Units.{Where.At_rest, Where.In_move, see, shown_rest}
 use Rattle.net_world.specs.Path.{numbers}
@@ -187,8 +187,8 @@ module _ {F R : Type 0} (here : Reached F R) where
 
     pub link_view : (s r : ℕ) → s < n → r < n → (s == 0) && (r == 0) ≡ false → view f g z es (on_link w s r) ≡ expect op.src op.dst third x s r
     link_view s r hs hr off =
-        ap (λ ms. items_of (seen (frame (S f g) z)) (olds ms)) (sym (link_shown s r hs hr off))
-        ∙ ap (λ b. if b then [] else items_of (seen (frame (S f g) z)) (olds (j.world.link s r))) (sym off) ∙ holds.views s r
+        ap (λ ms. filter_map (seen (frame (S f g) z)) (olds ms)) (sym (link_shown s r hs hr off))
+        ∙ ap (λ b. if b then [] else filter_map (seen (frame (S f g) z)) (olds (j.world.link s r))) (sym off) ∙ holds.views s r
 
     pub link_unshared : (s r : ℕ) → s < n → r < n → (s == 0) && (r == 0) ≡ false → EachNew (NoShare (S f g) u es) (filter_map (shown f g) (on_link w s r))
     link_unshared s r hs hr off = subst (EachNew (NoShare (S f g) u es)) (link_shown s r hs hr off) (apart.links s r off)
@@ -206,7 +206,7 @@ module _ {F R : Type 0} (here : Reached F R) where
     pub events_to : (k : ℕ) → 2 ≤ k → k < n → filter mine (flat_map handed_over_in (on_link w k 1)) ≡ events_in (expect op.src op.dst third x k 1)
     events_to k two few = (link_read k 1 few (omega (arith, two, few)) (let off : (k == 0) ≡ false = grind (arith, nat_tests, two) in rw off refl)).event
 
-    pub forwarded_to : is_known x.cs ≡ true → filter mine (flat_map forwarded_in (on_link w 1 0)) ≡ forwards x.cs
+    pub forwarded_to : list_all for_switch x.cs ≡ true → filter mine (flat_map forwarded_in (on_link w 1 0)) ≡ forwards x.cs
     forwarded_to known = (link_read 1 0 (omega (arith, count)) (omega (arith, count)) refl).forward known
 
     -- nothing of it is diverted

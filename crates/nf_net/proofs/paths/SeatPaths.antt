@@ -2,14 +2,14 @@
 use Rattle.nf_net.proofs.Words.{◌≡◌, ◌≢◌, ℕ, ◌<◌, ◌≤◌, Bool, true, false, List, [], ◌∷◌, ◌++◌, map, length, refl, sym, ap, ◌∙◌, subst, append_assoc, append-nil}
 use Rattle.nf_net.proofs.Words.{arith, if◌then◌else◌, ◌==◌, ◌&&◌, ◌-◌, nat_lt, slice_get, filter, flat_map, ltb-false, nat_tests, Decides-ltb, slice_get_past}
 use Rattle.nf_net.proofs.Words.{filter-append, Packet, unit_at, same_unit-true, Target, is_there, instance_node, State, idle, nil_right, Each, firsts, same_of}
-use Rattle.nf_net.proofs.Words.{passes_in, events_in, expect, seat_shape, seat_all, seat_path, none_in, Seeing, node_at, side_place, same_done, seat_parts}
+use Rattle.nf_net.proofs.Words.{passes_in, events_in, expect, seat_shape, seat_all, seat_path, none_in, Seeing, node_at, side_place, seat_parts}
 use Rattle.nf_net.proofs.Words.{where_two, moves_of, packet_numbered, arrivals_in, installs_in, all_but, passed_in, forwarded_in, handed_over_in, diverted_in}
 use Rattle.nf_net.proofs.Words.{stored_by, queued_by, on_links, owner, is_loose, IsFront, is_of, arrived_of, processed_of, in_flight_of, unit_fits, target_node}
 use Rattle.nf_net.proofs.Words.{is_sys, unit_is_fit, Given, GenuinePacket, S, A, done_same, given, genuine, Unit, flow_of, split}
 use Rattle.std.specs.Prelude.{None}
 use Rattle.proof_machines.proofs.unit.Stages as stages
-use Rattle.proof_machines.proofs.unit.Path.{carries, forwards}
-use Rattle.proof_machines.proofs.unit.Sides.{at_side, places, Last, At_source, At_destination, At_third, SidesStand, seat_stands, Empty, empty_of}
+use Rattle.proof_machines.proofs.unit.Path.{carries, forwards, places}
+use Rattle.proof_machines.proofs.unit.Sides.{at_side, Last, At_source, At_destination, At_third, SidesStand, seat_stands, Empty, empty_of}
 use Rattle.proof_machines.proofs.net.Units.{see}
 use Rattle.net_world.specs.Input.{packets}
 use Rattle.net_world.specs.Path.{at_instance}
@@ -267,5 +267,5 @@ module _ {F R : Type 0} (here : Reached F R) (in_turn : IsFront (arrivals_in her
 
   pub all_is : processed_of f c items u w.log ++ in_flight_of f c items u w ≡ seat_all k.seat
   all_is =
-      ap (λ v. v ++ in_flight_of f c items u w) (sym (done_same f c items is n w j u) ∙ same_done (S f g) z j.world.done ∙ k.holds.done)
+      ap (λ v. v ++ in_flight_of f c items u w) (sym (done_same f c items is n w j u) ∙ k.holds.done)
       ∙ ap (λ v. firsts x.done ++ v) path_is ∙ sym (seat_parts (S f g).F k.seat)

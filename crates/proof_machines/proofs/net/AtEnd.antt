@@ -1,12 +1,11 @@
 -- Where no message stands on the links between the first nodes, among them the switch, the controller and the sides of each open move:
 -- a unit whose target is among them has no packet left, and its record is live at its target.
+use Rattle.proof_machines.proofs.unit.Lists.{map_nil}
 use Rattle.proof_machines.proofs.net.Words.{◌≡◌, ℕ, ◌<◌, ◌≤◌, Bool, true, false, Some, List, [], ◌++◌, map, refl, sym, ap, ◌∙◌, subst, arith, if◌then◌else◌}
-use Rattle.proof_machines.proofs.net.Words.{◌&&◌, ◌==◌, nat_tests, At_a, At_b, At_c, Ran, after, State, firsts, IsOrderedAs, Nodes, expect, items, Silent}
-use Rattle.proof_machines.proofs.net.Words.{none_carried, AtRestNow, Rests_at, rest_at, seat_ends, UnitSeat, seat_shape, seat_all, seat_rests, Op, Sys, IsSys}
-use Rattle.proof_machines.proofs.net.Words.{Open, find_op, World, seen, Seeing, frame, node_at, place, IsController, Holds, Rest, carries_of, done_u, split}
-use Rattle.proof_machines.proofs.net.Words.{Unit, Side}
+use Rattle.proof_machines.proofs.net.Words.{◌&&◌, ◌==◌, nat_tests, At_a, At_b, At_c, Ran, after, State, firsts, IsOrderedAs, Nodes, expect, filter_map, Silent}
+use Rattle.proof_machines.proofs.net.Words.{AtRestNow, Rests_at, rest_at, seat_ends, UnitSeat, seat_shape, seat_all, seat_rests, Op, Sys, IsSys, Open, find_op}
+use Rattle.proof_machines.proofs.net.Words.{World, seen, Seeing, frame, node_at, place, IsController, Holds, Rest, carries_of, done_u, split, Unit, Side}
 use Rattle.proof_machines.proofs.unit.Machine.{Carry, Phase}
-use Rattle.proof_machines.proofs.net.RestingSeats.{same_done}
 use Rattle.proof_machines.proofs.net.Units.{Where, Where.At_rest, Where.In_move, see}
 
 -- the links of the machine that its nodes tell
@@ -67,8 +66,8 @@ module _ {R : Type 0} (S : Sys R) (laws : IsSys S) (u : Unit) (n : ℕ) (w : Wor
     module _ (z : Seeing) (x : State R) (h : Holds S z w x) (src : z.op.src < n) (dst : z.op.dst < n) where
       no_items : (i j : ℕ) → i < n → j < n → expect z.op.src z.op.dst z.third x i j ≡ []
       no_items i j hi hj = sym (h.views i j)
-          ∙ split ((i == 0) && (j == 0)) (λ b. (if b then [] else items (seen (frame S z)) (w.link i j)) ≡ []) (λ _. refl)
-          (λ off. ap (items (seen (frame S z))) (quiet i j hi hj off))
+          ∙ split ((i == 0) && (j == 0)) (λ b. (if b then [] else filter_map (seen (frame S z)) (w.link i j)) ≡ []) (λ _. refl)
+          (λ off. ap (filter_map (seen (frame S z))) (quiet i j hi hj off))
 
       pub is_silent : Silent x
       is_silent =
@@ -115,10 +114,10 @@ module _ {R : Type 0} (S : Sys R) (laws : IsSys S) (u : Unit) (n : ℕ) (w : Wor
           left = l;
           flag = b;
           two = subst (λ y. 2 ≤ y) (sym at) (place_two z d l phase k h.nodes side);
-          none = λ few. none_carried R l (sym (at_place z d l phase k h.nodes side).0
+          none = λ few. map_nil _ l (sym (at_place z d l phase k h.nodes side).0
               ∙ no_items z (rest_at S.F side d l phase k) h src dst 0 (place S z side) (omega (arith, some)) (subst (λ y. y < n) at few));
           live = ap (λ y. S.B.at u (w.inst y).live) at ∙ (h.insts (place S z side)).live ∙ (at_place z d l phase k h.nodes side).1;
-          done = same_done S z w.done ∙ h.done ∙ ap firsts (done_at z d l phase k h.nodes side);
+          done = h.done ∙ ap firsts (done_at z d l phase k h.nodes side);
           order = ordered;
           flag_is = e;
         }

@@ -2,8 +2,8 @@
 use Rattle.proof_machines.proofs.net.Words.{◌≡◌, ℕ, ◌+◌, ◌≤◌, Bool, true, false, Some, None, List, [], ◌∷◌, map, length, refl, sym, ap, ◌∙◌, subst, arith}
 use Rattle.proof_machines.proofs.net.Words.{if◌then◌else◌, ◌&&◌, ◌==◌, is_some, option_to_list, nat_tests, Decides-eqb, Item, Put_no, State, Chunks, record_at}
 use Rattle.proof_machines.proofs.net.Words.{RPiece, RPhase, M_event, M_put_no, Frame, see, see_phase, Streaming, records, Each, Without, Clean, frozen_in}
-use Rattle.proof_machines.proofs.net.Words.{free_in, expect, seat_shape, items, Msg, Mv, Sys, IsSys, Open, find_op, World, seen, Seeing, frame, Label, OpLabel}
-use Rattle.proof_machines.proofs.net.Words.{IsController, Holds, head, NothingOf, Global, same_unit, same_unit_equiv, Filter, Answer, either_way, Unit}
+use Rattle.proof_machines.proofs.net.Words.{free_in, expect, seat_shape, add, filter_map, Msg, Mv, Sys, IsSys, Open, find_op, World, seen, Seeing, frame, Label}
+use Rattle.proof_machines.proofs.net.Words.{OpLabel, IsController, Holds, head, NothingOf, Global, same_unit, same_unit_equiv, Filter, Answer, either_way, Unit}
 use Rattle.proof_machines.proofs.unit.OneCopy.{few_records, records_head}
 use Rattle.proof_machines.proofs.net.Ctrl.{none_some, each_found}
 use Rattle.proof_machines.proofs.net.Units.{Where, Where.At_rest, Where.In_move, shown, see as seeing}
@@ -23,14 +23,14 @@ module _ {R : Type 0} where
   copies u ph = 0
 
   -- none of another move
-  has_none : (u : Unit) (cs : Chunks R) → record_at u cs ≡ None → has u cs ≡ 0
+  pub has_none : (u : Unit) (cs : Chunks R) → record_at u cs ≡ None → has u cs ≡ 0
   has_none u cs e = rw e refl
 
   have_none : (u : Unit) (ps : List (RPiece R)) → Each (Without u) ps → have u ps ≡ 0
   have_none u [] h = refl
   have_none u (p ∷ ps) h = let a = has_none u p.chunks h.0 in let b = have_none u ps h.1 in rw (a, b) refl
 
-  copies_none : (u : Unit) (ph : RPhase R) → Clean u ph → copies u ph ≡ 0
+  pub copies_none : (u : Unit) (ph : RPhase R) → Clean u ph → copies u ph ≡ 0
   copies_none u (Streaming frozen free came door) h = let a = have_none u frozen h.0 in let b = have_none u free h.1 in rw (a, b) refl
   copies_none u ph h = refl
 
@@ -41,7 +41,7 @@ module _ {R : Type 0} where
   have_own : (v : Frame) (ps : List (RPiece R)) → have v.unit ps ≡ length (records (map (see v) ps))
   have_own v [] = refl
   have_own v (p ∷ ps) = elim (record_at v.unit p.chunks) as (λ o. (if is_some o then 1 else 0) + have v.unit ps
-      ≡ length (elim o as (λ _. List R) [ None ↦ records (map (see v) ps) | Some r ↦ r ∷ records (map (see v) ps) ])) [
+      ≡ length (add o (records (map (see v) ps)))) [
         | None ↦ (let e = have_own v ps in omega (arith, e))
         | Some r ↦ (let e = have_own v ps in omega (arith, e))
       ]
@@ -81,7 +81,7 @@ module _ {R : Type 0} (S : Sys R) (laws : IsSys S) where
 
   -- the link from B
   from_target : (z : Seeing) (w : World S) (x : State R) → Holds S z w x → (i : ℕ) → i ≡ z.op.dst → (m : Msg R) (rest : List (Msg R)) → w.link i 1 ≡ m ∷ rest
-      → (it : Item R) → seen (frame S z) m ≡ Some it → it ∷ items (seen (frame S z)) rest ≡ x.bc
+      → (it : Item R) → seen (frame S z) m ≡ Some it → it ∷ filter_map (seen (frame S z)) rest ≡ x.bc
   from_target z w x h i at m rest waits it is =
       let b0 = h.apart.dst_0 in
       let ba = h.apart.dst_src in
@@ -90,7 +90,7 @@ module _ {R : Type 0} (S : Sys R) (laws : IsSys S) where
       let b1 : (z.op.dst == 1) ≡ false = grind (arith, nat_tests, two) in
       let off : (i == 0) && (1 == 0) ≡ false = rw (at, b0) refl in
       let all : expect z.op.src z.op.dst z.third x i 1 ≡ x.bc = rw (at, b0, b1, ba, bb) refl in
-      ap (λ o. Rattle.proof_machines.proofs.unit.Real.add o (items (seen (frame S z)) rest)) (sym is) ∙ head S z w.link i 1 m rest waits off []
+      ap (λ o. add o (filter_map (seen (frame S z)) rest)) (sym is) ∙ head S z w.link i 1 m rest waits off []
       ∙ h.views i 1 ∙ all
 
   -- and with what was refused and is on its way back
@@ -107,7 +107,7 @@ module _ {R : Type 0} (S : Sys R) (laws : IsSys S) where
       let a = own.1 in
       let is : seen (frame S z) (Mv g (M_put_no n why cs)) ≡ Some (Put_no why (record_at u cs)) = rw on refl in
       let link = from_target z w x k.holds e.op.dst (ap (λ o. o.dst) own.0) (Mv g (M_put_no n why cs)) rest waits (Put_no why (record_at u cs)) is in
-      let back = records_head (Put_no why (record_at u cs)) (items (seen (frame S z)) rest) x.bc link in
+      let back = records_head (Put_no why (record_at u cs)) (filter_map (seen (frame S z)) rest) x.bc link in
       let one = has_own u cs in
       let few = few_records S.F k.seat in
       omega (arith, a, back, one, few))

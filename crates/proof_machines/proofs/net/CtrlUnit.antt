@@ -1,19 +1,21 @@
 -- The controller's step at one unit: of its own move it sees the machine's row, of another move nothing, and all that is open or
 -- sent has its labels.
+use Rattle.proof_machines.proofs.unit.Real.{sent_either}
 use Rattle.proof_machines.proofs.net.Words.{◌≡◌, ℕ, Bool, true, false, Option, Some, None, List, [], ◌∷◌, refl, sym, ap, ◌∙◌, subst, if◌then◌else◌, ◌==◌}
 use Rattle.proof_machines.proofs.net.Words.{eqb-true, both_ways, same_Some, Item, Pass, State, ControllerTurn, goes, from_source, from_destination, M_enable}
 use Rattle.proof_machines.proofs.net.Words.{M_stream, M_delete, M_put, M_restore, M_event, M_piece, M_put_no, M_forward, M_install, M_fence_to, RPhase, Op}
 use Rattle.proof_machines.proofs.net.Words.{OperationTurn, r_goes, r_from_source, r_from_destination, Frame, where_true, none_if, add, view, only_mine}
 use Rattle.proof_machines.proofs.net.Words.{see_phase, sent_for, sends_to, Sees, NodesDiffer, quiet, did_a, did_b, Each, Foreign, SentForeign, Clean}
-use Rattle.proof_machines.proofs.net.Words.{StaysClean, from_source_clean, from_destination_clean, items, Filter, Msg, Carry_on, Pass_on, Fence_on, Mv, Sys}
-use Rattle.proof_machines.proofs.net.Words.{Open, find_op, write_op, num_of, row_of, row, filter_for, wrap, ControllerMove, found, numbered, ctrl_step, seen}
-use Rattle.proof_machines.proofs.net.Words.{Seeing, EachSent, frame, MoveLabel, Label, OpLabel, IsController, same_unit, either_way, by_if, split}
+use Rattle.proof_machines.proofs.net.Words.{StaysClean, from_source_clean, from_destination_clean, filter_map, Filter, Msg, Carry_on, Pass_on, Fence_on, Mv}
+use Rattle.proof_machines.proofs.net.Words.{Sys, Open, find_op, write_op, num_of, row_of, row, filter_for, wrap, ControllerMove, found, numbered, ctrl_step}
+use Rattle.proof_machines.proofs.net.Words.{seen, Seeing, EachSent, frame, MoveLabel, Label, OpLabel, IsController, same_unit, either_way, by_if, split}
 use Rattle.proof_machines.proofs.unit.Machine.{Carry, Fence, Forward, Phase}
 use Rattle.proof_machines.proofs.unit.Real
 use Rattle.move_op.specs.Phases.{Over}
 use Rattle.proof_machines.proofs.unit.Quiet.{Is_quiet, IsNotMine, view_nothing, from_source_quiet, from_destination_quiet}
 use Rattle.proof_machines.proofs.net.RowNumbers.{OfRow, SentOf, row_numbers}
-use Rattle.proof_machines.proofs.net.Ctrl.{none_some, find_close, find_set, find_write_other, each_write, each_found, idle_side, ext_a, ext_b}
+use Rattle.proof_machines.proofs.NumberedLists.{find-drop_own}
+use Rattle.proof_machines.proofs.net.Ctrl.{none_some, find_set, find_write_other, each_write, each_found, ext_a, ext_b}
 
 module _ {R : Type 0} (S : Sys R) (z : Seeing) where
   abbrev fr : Frame
@@ -23,7 +25,7 @@ module _ {R : Type 0} (S : Sys R) (z : Seeing) where
   n = z.op.num
 
   abbrev its : List (Msg R) → List (Item R)
-  its ms = items (seen fr) ms
+  its ms = filter_map (seen fr) ms
 
   pub wrap_view : (g : Filter) (y : ℕ) (xs : List (ℕ × Real.Msg R)) → its (sent_for y (wrap g xs)) ≡ view fr (sent_for y xs)
   wrap_view g y [] = refl
@@ -139,7 +141,7 @@ module _ {R : Type 0} (S : Sys R) (z : Seeing) where
     -- its own move does its row
     after_write : (e : Open R) (ph : RPhase R) (f : List ℕ) (x' : State R) → find_op es n ≡ Some e → e.op ≡ z.op → see_phase fr ph ≡ x'.phase
         → only_mine fr f ≡ x'.store → e.op.keep ≡ x'.keep → IsController S z (find_op (write_op n ph f es) n) x'
-    after_write e (Over why) f x' there q a b c = subst (λ o. IsController S z o x') (sym (find_close n es)) (rw (← a) refl)
+    after_write e (Over why) f x' there q a b c = subst (λ o. IsController S z o x') (sym (find-drop_own _ n es)) (rw (← a) refl)
     after_write e ph f x' there q a b c = subst (λ o. IsController S z o x') (sym (find_set n ph f es e there)) (q, a, b, c)
 
     own_does : (e : Open R) (did : OperationTurn R) (d : ControllerTurn R) → find_op es n ≡ Some e → e.op ≡ z.op → e.op.keep ≡ x.keep → Sees fr did d
@@ -218,10 +220,9 @@ module _ {R : Type 0} (S : Sys R) (z : Seeing) where
     as_stay {c = c} e h = subst (λ d. SeesController c d) (sym e) h
 
     no_num : (a b : Bool) (m : Real.Msg R) → num_of m ≡ None → mdid a b x.phase x.store (Real.seen fr m) ≡ stay
-    no_num a b (M_forward p to) e = idle_if a b (fr.mine p) (sends_to fr to (λ w. Forward w p)) (idle_side z.op (λ p. same_unit (S.packet_unit p) z.unit)
-        z.unit apart (to == fr.from) (to == fr.to) (λ w. Forward w p) (from_source x.phase x.store) stay (λ _. refl) refl)
-        (idle_side z.op (λ p. same_unit (S.packet_unit p) z.unit) z.unit apart (to == fr.from) (to == fr.to) (λ w. Forward w p)
-        (from_destination z.op.keep x.phase x.store) stay (λ _. refl) refl)
+    no_num a b (M_forward p to) e = idle_if a b (fr.mine p) (sends_to fr to (λ w. Forward w p))
+        (sent_either (λ it. from_source x.phase x.store it ≡ stay) fr to (λ w. Forward w p) (λ _. refl) refl)
+        (sent_either (λ it. from_destination z.op.keep x.phase x.store it ≡ stay) fr to (λ w. Forward w p) (λ _. refl) refl)
     no_num a b (M_enable j r) e = none_some (sym e)
     no_num a b m e = none_some (sym e)
 

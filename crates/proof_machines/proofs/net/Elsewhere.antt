@@ -1,13 +1,12 @@
 -- Moves' worlds that are the same to a unit: where the unit is goes from one to the other. And it stays where it is when an instance is
 -- sent a fence of a number that no open move has. What of its target and its rest is read off where it is.
-use Rattle.proof_machines.proofs.net.Words.{◌≡◌, ℕ, ◌≤◌, Bool, true, false, Some, None, List, [], ◌∷◌, ◌++◌, refl, sym, ap, ◌∙◌, subst, append-nil}
-use Rattle.proof_machines.proofs.net.Words.{if◌then◌else◌, ◌&&◌, ◌==◌, Decides-eqb, At_a, At_b, At_c, Ran, State, sent_for, only_mine, Each, Nodes, items}
-use Rattle.proof_machines.proofs.net.Words.{seat_shape, Msg, In_packet, Asked, Carry_on, Pass_on, Fence_on, Mv, Sys, IsSys, find_rule, rule_of, held_of}
-use Rattle.proof_machines.proofs.net.Words.{find_op, World, seen, Seeing, frame, Label, shows, RuleLabel, OpLabel, place, IsController, Holds, each_put, Rest}
-use Rattle.proof_machines.proofs.net.Words.{RestRule, RestOp, NothingOf, carries_of, done_u, same_unit, split, false_from_ne_true, Unit, Side}
+use Rattle.proof_machines.proofs.net.Words.{filter_map-append, ◌≡◌, ℕ, ◌≤◌, Bool, true, false, Some, None, List, [], ◌∷◌, ◌++◌, refl, sym, ap, ◌∙◌, subst}
+use Rattle.proof_machines.proofs.net.Words.{append-nil, if◌then◌else◌, ◌&&◌, ◌==◌, Decides-eqb, At_a, At_b, At_c, Ran, State, sent_for, only_mine, Each, Nodes}
+use Rattle.proof_machines.proofs.net.Words.{filter_map, seat_shape, Msg, Fence_on, Sys, IsSys, find_rule, rule_of}
+use Rattle.proof_machines.proofs.net.Words.{held_of, find_op, World, seen, Seeing, frame, Label, shows, RuleLabel, OpLabel, place, IsController, Holds}
+use Rattle.proof_machines.proofs.net.Words.{each_put, Rest, RestRule, RestOp, NothingOf, carries_of, done_u, split, false_from_ne_true, Unit, Side}
 use Rattle.proof_machines.proofs.net.Ctrl.{each_found}
 use Rattle.proof_machines.proofs.net.OtherWorld.{put_unseen, one_unseen}
-use Rattle.proof_machines.proofs.net.RestingSeats.{same_done}
 use Rattle.proof_machines.proofs.net.Units.{Where, Where.At_rest, Where.In_move, see}
 
 -- all that where a unit is looks at
@@ -55,32 +54,20 @@ module _ {R : Type 0} (S : Sys R) where
     target = e.target ∙ h.target;
     ctrl = subst (λ es. IsController S z (find_op es z.op.num) x) (sym e.ops) h.ctrl;
     ops = subst (λ es. Each (OpLabel S z) es) (sym e.ops) h.ops;
-    done = sym (same_done S z v.done) ∙ e.done ∙ same_done S z w.done ∙ h.done;
+    done = e.done ∙ h.done;
   }
     where
       again : (i j : ℕ) → shows S z v.link i j ≡ shows S z w.link i j
-      again i j = split ((i == 0) && (j == 0)) (λ b. (if b then [] else items (seen (frame S z)) (v.link i j))
-          ≡ (if b then [] else items (seen (frame S z)) (w.link i j)))
+      again i j = split ((i == 0) && (j == 0)) (λ b. (if b then [] else filter_map (seen (frame S z)) (v.link i j))
+          ≡ (if b then [] else filter_map (seen (frame S z)) (w.link i j)))
           (λ _. refl)
-          (λ off. ap (items (seen (frame S z))) (e.link i j off))
+          (λ off. ap (filter_map (seen (frame S z))) (e.link i j off))
 
   module _ (laws : IsSys S) (u : Unit) where
     pub elsewhere_where : (w v : World S) (ps : List ℕ) (c : Bool) → Elsewhere S u w v → Where S laws u w ps c → Where S laws u v ps c
     elsewhere_where w v ps c e (At_rest owner d l b h o f) = At_rest owner d l b (elsewhere_rest u w v owner d l e h) o f
     elsewhere_where w v ps c e (In_move op third x s b there h o f k) = In_move op third x s b (ap (λ es. find_op es op.num) e.ops ∙ there)
         (elsewhere_holds (see S laws u op third) w v (seat_shape S.F s) e h) o f (λ on plain at. k on plain (sym e.target ∙ at))
-
-    carries-append : (ms ns : List (Msg R)) → carries_of S u (ms ++ ns) ≡ carries_of S u ms ++ carries_of S u ns
-    carries-append [] ns = refl
-    carries-append (Carry_on p ∷ ms) ns = split (same_unit (S.packet_unit p) u)
-        (λ b. (if b then p ∷ carries_of S u (ms ++ ns) else carries_of S u (ms ++ ns)) ≡ (if b then p ∷ carries_of S u ms else carries_of S u ms)
-        ++ carries_of S u ns)
-        (λ _. ap (λ v. p ∷ v) (carries-append ms ns)) (λ _. carries-append ms ns)
-    carries-append (Pass_on p ∷ ms) ns = carries-append ms ns
-    carries-append (Fence_on k ∷ ms) ns = carries-append ms ns
-    carries-append (Mv g m ∷ ms) ns = carries-append ms ns
-    carries-append (In_packet p ∷ ms) ns = carries-append ms ns
-    carries-append (Asked x ∷ ms) ns = carries-append ms ns
 
     no_carry : (n : ℕ) (a t : Bool) → carries_of S u (if a then (if t then Fence_on n ∷ [] else []) else []) ≡ []
     no_carry n true true = refl
@@ -93,7 +80,7 @@ module _ {R : Type 0} (S : Sys R) where
     fence_where w ps c n to none (At_rest owner d l b h o f) =
         At_rest owner d l b (record {
           two = h.two;
-          links = λ i j off. carries-append (w.link i j) (fence i j) ∙ ap (λ v. carries_of S u (w.link i j) ++ v) (no_carry n (i == 0) (to == j))
+          links = λ i j off. filter_map-append _ (w.link i j) (fence i j) ∙ ap (λ v. carries_of S u (w.link i j) ++ v) (no_carry n (i == 0) (to == j))
               ∙ append-nil (carries_of S u (w.link i j)) ∙ h.links i j off;
           labels = each_put (λ i _ m. NothingOf S u i m) w.link 0 ((to, Fence_on n) ∷ []) h.labels (tt, tt);
           live = h.live;

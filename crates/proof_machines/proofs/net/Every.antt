@@ -1,13 +1,16 @@
 -- The invariant of a world: numbers below the next one, and for every unit where it is. Each step keeps it, and so do begins and ends.
+use Rattle.proof_machines.proofs.unit.SeenInst.{put_answers}
+use Rattle.proof_machines.proofs.EachLaws.{each_made}
 use Rattle.proof_machines.proofs.net.Words.{◌≡◌, ℕ, suc, ◌<◌, ◌≤◌, Bool, true, false, Option, Some, None, List, [], ◌∷◌, map, length, refl, subst, arith}
 use Rattle.proof_machines.proofs.net.Words.{if◌then◌else◌, ◌&&◌, ◌==◌, Rule, Free, Drops, Buffers, RPiece, M_enable, M_stream, M_delete, M_put, M_restore}
-use Rattle.proof_machines.proofs.net.Words.{M_piece, M_forward, M_install, M_fence_to, Op, marks, chop, Each, each-append, each_map, r_put, Filter, inst_next}
+use Rattle.proof_machines.proofs.net.Words.{M_piece, M_forward, M_install, M_fence_to, Op, marks, chop, Each, each-append, each_map, Filter, inst_next}
 use Rattle.proof_machines.proofs.net.Words.{ctrl_next, sw_next, in_next, begin_next, Msg, Carry_on, Pass_on, Fence_on, Mv, MoveAsked, Sys, IsSys, Ruling}
-use Rattle.proof_machines.proofs.net.Words.{first_rule, set_rule, hold, holding, drop_rule, to_ctrl, NumberedInstance, by_kind, by_rule, inst_step, Open}
+use Rattle.proof_machines.proofs.net.Words.{first_rule, set_rule, hold, holding, to_ctrl, NumberedInstance, by_kind, by_rule, inst_step, Open}
 use Rattle.proof_machines.proofs.net.Words.{find_op, num_of, row, wrap, found, numbered, ctrl_step, sw_sends, new_op, begin_sends, World, EachSent, each_after}
-use Rattle.proof_machines.proofs.net.Words.{each_put, Below, IsBelow, Global, Answer, by_if, Unit}
+use Rattle.proof_machines.proofs.net.Words.{each_put, Below, IsBelow, Global, Unit}
 use Rattle.proof_machines.proofs.unit.Real
-use Rattle.proof_machines.proofs.net.RuleLists.{each-change, each_set}
+use Rattle.proof_machines.proofs.NumberedLists.{each-change, each-drop}
+use Rattle.proof_machines.proofs.net.RuleLists.{each_set}
 use Rattle.proof_machines.proofs.net.RowNumbers.{OfRow, SentOf, row_numbers}
 use Rattle.proof_machines.proofs.net.Ctrl.{each_write, each_found}
 use Rattle.proof_machines.proofs.net.Units.{Where}
@@ -22,11 +25,7 @@ module _ {R : Type 0} (S : Sys R) (laws : IsSys S) where
     SendsBelow xs = EachSent (λ _ m. Below b m) xs
 
     rules_hold : (n p : ℕ) (rs : List Ruling) → RulesBelow rs → RulesBelow (hold n p rs)
-    rules_hold n p rs h = each-change (λ r. r.num < b) n (holding p) (λ r _ e. e) rs h
-
-    rules_drop : (n : ℕ) (rs : List Ruling) → RulesBelow rs → RulesBelow (drop_rule n rs)
-    rules_drop n [] h = tt
-    rules_drop n (r ∷ rs) h = by_if RulesBelow (r.num == n) (rules_drop n rs h.1) (h.0, rules_drop n rs h.1)
+    rules_hold n p rs h = each-change _ (λ r. r.num < b) n (holding p) (λ r _ e. e) rs h
 
     rules_set : (n : ℕ) (g : Filter) (k : Rule) (rs : List Ruling) → n < b → RulesBelow rs → RulesBelow (set_rule n g k rs)
     rules_set n g k rs e h = each_set (λ r. r.num < b) n g k rs (λ r _ x. x) e h
@@ -51,18 +50,11 @@ module _ {R : Type 0} (S : Sys R) (laws : IsSys S) where
     pieces_below n [] e = tt
     pieces_below n (p ∷ ps) e = (e, pieces_below n ps e)
 
-    put_below : (i : NumberedInstance S) (n : ℕ) (p : RPiece R) (first : Bool) (refuse : Option Answer) (last : Bool) → p.last ≡ last → n < b
-        → SendsBelow (map to_ctrl (r_put S.F S.B n first refuse p i.live).1)
-    put_below i n p false refuse true e h = rw e (h, tt)
-    put_below i n p false refuse false e h = rw e tt
-    put_below i n p true None last e h = (h, tt)
-    put_below i n p true (Some why) last e h = (h, tt)
-
     inst_below : (i : NumberedInstance S) (m : Msg R) → Below b m → RulesBelow i.rules
         → SendsBelow (inst_step S i m).sends × RulesBelow (inst_step S i m).node.rules
     inst_below i (Carry_on p) e h = carry_below i p (first_rule S (S.packet_unit p) i.rules) refl h
     inst_below i (Pass_on p) e h = (tt, h)
-    inst_below i (Fence_on n) e h = ((e, tt), rules_drop n i.rules h)
+    inst_below i (Fence_on n) e h = ((e, tt), each-drop _ (λ r. r.num < b) n i.rules h)
     inst_below i (Mv g (M_enable n k)) e h = ((e, tt), rules_set n g k i.rules e h)
     inst_below i (Mv g (M_stream n)) e h = (
       pieces_below n (marks (length (S.B.select (S.takes g) i.live)) (S.newest (S.B.select (S.takes g) i.live))
@@ -70,7 +62,8 @@ module _ {R : Type 0} (S : Sys R) (laws : IsSys S) where
       h,
     )
     inst_below i (Mv g (M_delete n us)) e h = ((e, tt), h)
-    inst_below i (Mv g (M_put n p first)) e h = (put_below i n p first (S.refuse i.room i.live p) p.last refl e, h)
+    inst_below i (Mv g (M_put n p first)) e h =
+        (each_made _ to_ctrl (λ _ k. k) _ (put_answers S.F S.B (λ m. IsBelow b (num_of m)) n first (S.refuse i.room i.live p) p i.live e (λ _. e)), h)
     inst_below i (Mv g (M_restore n cs)) e h = ((e, tt), h)
     inst_below i m e h = (tt, h)
 
@@ -87,8 +80,7 @@ module _ {R : Type 0} (S : Sys R) (laws : IsSys S) where
     of_row_below o m h e = absurd e
 
     wrap_below : (o : Op) (g : Filter) (xs : List (ℕ × Real.Msg R)) → o.num < b → Each (SentOf o) xs → SendsBelow (wrap g xs)
-    wrap_below o g [] h e = tt
-    wrap_below o g (x ∷ xs) h e = (of_row_below o x.1 h e.0, wrap_below o g xs h e.1)
+    wrap_below o g xs h e = each_made _ _ (λ x row. of_row_below o x.1 h row) xs e
 
     abbrev OpsBelow : List (Open R) → Type 0
     OpsBelow es = Each (λ e. e.op.num < b) es

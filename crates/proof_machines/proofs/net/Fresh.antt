@@ -1,13 +1,12 @@
 -- Where an instance processes packets of a unit, its record of the unit is the fold of all that was done of it before.
 use Rattle.proof_machines.proofs.net.Words.{◌≡◌, ◌≢◌, ℕ, true, false, Option, Some, None, List, [], ◌∷◌, refl, sym, ap, ◌∙◌, subst, ◌==◌, At_a, At_b, Part}
 use Rattle.proof_machines.proofs.net.Words.{Inst, Did, inst_does, Item, State, firsts, ShownBy, By_sa, By_sb, By_sc, By_ca, By_cb, By_ac, By_bc, By_cc, By_cs}
-use Rattle.proof_machines.proofs.net.Words.{shown_by, UnitSeat, seat_shape, items, Msg, Sys, IsSys, InstanceTurn, World, inst_step, seen, Seeing, sides_of}
+use Rattle.proof_machines.proofs.net.Words.{shown_by, UnitSeat, seat_shape, filter_map, Msg, Sys, IsSys, InstanceTurn, World, inst_step, seen, Seeing, sides_of}
 use Rattle.proof_machines.proofs.net.Words.{frame, SeesNode, node_at, Holds, none_mine, Answer, Side, did_sends, never_true}
 use Rattle.proof_machines.proofs.unit.Fresh.{still_ca, still_cb, still_ran}
 use Rattle.proof_machines.proofs.net.Insts.{InstanceGoes, does}
 use Rattle.proof_machines.proofs.net.InstMoves.{MovesInstance, Any, Streams_out, Puts_in}
 use Rattle.proof_machines.proofs.net.InstWorld.{num, label, step_at, here, is_src, is_dst, is_third, shown}
-use Rattle.proof_machines.proofs.net.RestingSeats.{same_mine}
 
 module _ {R : Type 0} (S : Sys R) (laws : IsSys S) (z : Seeing) where
   module _ (w : World S) (s : UnitSeat S.F) (h : Holds S z w (seat_shape S.F s)) (p y : ℕ) (m : Msg R) (rest : List (Msg R)) (y0 : (y == 0) ≡ false)
@@ -39,7 +38,7 @@ module _ {R : Type 0} (S : Sys R) (laws : IsSys S) (z : Seeing) where
 
     module _ (some : none_mine S z.unit did.ran ≢ []) where
       some_ran : (d : Did R) → InstanceGoes S laws z own did d → d.ran ≢ []
-      some_ran d g none = some (same_mine S z did.ran ∙ g.ran ∙ ap firsts none)
+      some_ran d g none = some (g.ran ∙ ap firsts none)
 
       -- where packets of the unit are processed, the unit sees the message
       pub some_seen : (it : Item R) × (seen (frame S z) m ≡ Some it)
@@ -73,19 +72,19 @@ module _ {R : Type 0} (S : Sys R) (laws : IsSys S) (z : Seeing) where
         From_sc : y ≡ z.third → (it : Item R) (v : List (Item R)) → x.sc ≡ it ∷ v → node_at S z x y ≡ x.c → From_switch
 
       from_switch : (it : Item R) (is : seen (frame S z) m ≡ Some it)
-          → ShownBy (sides_of z) x (record { from = p; to = y; items = it ∷ items (seen (frame S z)) rest }) → From_switch
+          → ShownBy (sides_of z) x (record { from = p; to = y; items = it ∷ filter_map (seen (frame S z)) rest }) → From_switch
       from_switch it is (By_sa ya p0 e) =
-          let at = is_src S laws z w s h p y m rest y0 y1 waits it is ya in From_sa ya it (items (seen (frame S z)) rest) e at (its_ran it is At_a x.a at)
+          let at = is_src S laws z w s h p y m rest y0 y1 waits it is ya in From_sa ya it (filter_map (seen (frame S z)) rest) e at (its_ran it is At_a x.a at)
       from_switch it is (By_sb yb p0 e) =
-          let at = is_dst S laws z w s h p y m rest y0 y1 waits it is yb in From_sb yb it (items (seen (frame S z)) rest) e at (its_ran it is At_b x.b at)
+          let at = is_dst S laws z w s h p y m rest y0 y1 waits it is yb in From_sb yb it (filter_map (seen (frame S z)) rest) e at (its_ran it is At_b x.b at)
       from_switch it is (By_sc yc p0 e) =
-          From_sc yc it (items (seen (frame S z)) rest) e (is_third S laws z w s h p y m rest y0 y1 waits it is yc)
+          From_sc yc it (filter_map (seen (frame S z)) rest) e (is_third S laws z w s h p y m rest y0 y1 waits it is yc)
       from_switch it is (By_ca ya p1 e) =
           let g = its_ran it is At_a x.a (is_src S laws z w s h p y m rest y0 y1 waits it is ya) in
-          absurd (g.runs (still_ran S.F At_a g.parts g.refuse x.a it (still_ca S.F s it (items (seen (frame S z)) rest) e)))
+          absurd (g.runs (still_ran S.F At_a g.parts g.refuse x.a it (still_ca S.F s it (filter_map (seen (frame S z)) rest) e)))
       from_switch it is (By_cb yb p1 e) =
           let g = its_ran it is At_b x.b (is_dst S laws z w s h p y m rest y0 y1 waits it is yb) in
-          absurd (g.runs (still_ran S.F At_b g.parts g.refuse x.b it (still_cb S.F s it (items (seen (frame S z)) rest) e)))
+          absurd (g.runs (still_ran S.F At_b g.parts g.refuse x.b it (still_cb S.F s it (filter_map (seen (frame S z)) rest) e)))
       from_switch it is (By_ac e _ _) = never_true (sym y1 ∙ ap (λ q. q == 1) e)
       from_switch it is (By_bc e _ _) = never_true (sym y1 ∙ ap (λ q. q == 1) e)
       from_switch it is (By_cc e _ _) = never_true (sym y1 ∙ ap (λ q. q == 1) e)
@@ -95,4 +94,4 @@ module _ {R : Type 0} (S : Sys R) (laws : IsSys S) (z : Seeing) where
       comes_from_switch =
           let i = some_seen in
           from_switch i.0 i.1
-          (shown_by z.op.src z.op.dst z.third h.nodes x p y i.0 (items (seen (frame S z)) rest) (shown S laws z w s h p y m rest y0 y1 waits i.0 i.1))
+          (shown_by z.op.src z.op.dst z.third h.nodes x p y i.0 (filter_map (seen (frame S z)) rest) (shown S laws z w s h p y m rest y0 y1 waits i.0 i.1))

@@ -1,7 +1,7 @@
 -- What holds of the whole world for all units at once stays so when a move, a share or a copy begins, when a command goes out, and when an
 -- instance keeps records that stand by.
-use Rattle.proof_machines.proofs.net.Words.{◌≡◌, ℕ, suc, ◌<◌, ◌≤◌, Bool, true, false, Some, None, List, [], ◌∷◌, ◌++◌, ◌⊎◌, inl, inr, length, refl, sym, ap}
-use Rattle.proof_machines.proofs.net.Words.{◌∙◌, subst, arith, if◌then◌else◌, ◌&&◌, ◌==◌, nat_tests, Decides-eqb, self, Each, each-append, each_map, Filter}
+use Rattle.proof_machines.proofs.net.Words.{◌||◌, ◌≡◌, ℕ, suc, ◌<◌, ◌≤◌, Bool, true, false, Some, None, List, [], ◌∷◌, ◌++◌, ◌⊎◌, inl, inr, length, refl, sym}
+use Rattle.proof_machines.proofs.net.Words.{ap, ◌∙◌, subst, arith, if◌then◌else◌, ◌&&◌, ◌==◌, nat_tests, Decides-eqb, self, Each, each-append, each_map, Filter}
 use Rattle.proof_machines.proofs.net.Words.{Asked, MoveAsked, Sys, IsSys, Open, find_op, new_op, meets_any, begin_sends, begin_next, each_put, Below, find_old}
 use Rattle.proof_machines.proofs.net.Words.{find_new, Numbered, Disjoint, disjoint_sym, OfShare, GlobalAll, same_shares, Any, Old, New, ShareMsg, S_asked}
 use Rattle.proof_machines.proofs.net.Words.{S_install, S_get, S_chunks, WantShare, olds, as_old, Sharing, OpenShare, new_share, find_share, WholeWorld}
@@ -22,7 +22,7 @@ module _ {R : Type 0} (S : Sys R) (A : Sharing S) (laws : IsSys S) where
 
   pub meets_no_move : (g : Filter) (es : List (Open R)) → meets_any S g es ≡ false → Each (λ o. Disjoint S g o.filter) es
   meets_no_move g [] h = tt
-  meets_no_move g (o ∷ es) h = split (S.meets g o.filter) (λ b. (if b then true else meets_any S g es) ≡ false → Each (λ o. Disjoint S g o.filter) (o ∷ es))
+  meets_no_move g (o ∷ es) h = split (S.meets g o.filter) (λ b. b || meets_any S g es ≡ false → Each (λ o. Disjoint S g o.filter) (o ∷ es))
       (λ _ bad. cc)
       (λ off more. ((λ v on. laws.apart g o.filter v off on), meets_no_move g es more)) h
 

@@ -1,5 +1,6 @@
 -- What holds of the whole world for all units at once stays so with each step of an instance, the controller and the switch, and with each
 -- packet of the input.
+use Rattle.proof_machines.proofs.unit.Labels.{each_map}
 use Rattle.proof_machines.proofs.net.Words.{◌≡◌, ℕ, ◌<◌, Bool, true, false, Option, Some, None, List, [], ◌∷◌, ◌++◌, ◌⊎◌, inl, inr, length, refl, sym, ap, ◌∙◌}
 use Rattle.proof_machines.proofs.net.Words.{subst, if◌then◌else◌, ◌&&◌, ◌==◌, option_to_list, option_map_or, Decides-eqb, first, record_first, Each, each_map}
 use Rattle.proof_machines.proofs.net.Words.{Filter, Msg, Carry_on, Sys, IsSys, process, inst_step, Open, find_op, sw_sends, World, inst_next, ctrl_next}
@@ -11,7 +12,7 @@ use Rattle.proof_machines.proofs.net.Words.{arrive_sends, old_step, WholeWorld, 
 use Rattle.proof_machines.proofs.net.Every.{inst_global, ctrl_global, switch_global, input_global}
 use Rattle.proof_machines.proofs.net.AsMoves.{old_sends, old_sends-old, olds-put, no_olds-put, olds-after, news-after, no_olds-after, by_share_new, member_new}
 use Rattle.proof_machines.proofs.net.AsMoves.{ctrl_links}
-use Rattle.proof_machines.proofs.net.NewMessages.{OnNew, EachSentNew, each_new_map, each_sent_map, sent_old, sent_old_and, new_after, new_put, new_head}
+use Rattle.proof_machines.proofs.net.NewMessages.{OnNew, EachSentNew, each_new_map, sent_old, sent_old_and, new_after, new_put, new_head}
 use Rattle.proof_machines.proofs.net.ShareRows.{Tells, told_cases, SentBy, share_row_by}
 use Rattle.proof_machines.proofs.net.GlobalShares.{each_set_any, nums_set, none_set, ctrl_each, ctrl_none, of_share_set, TakenBy, told_of, sent_of}
 
@@ -138,10 +139,9 @@ module _ {R : Type 0} (S : Sys R) (A : Sharing S) (laws : IsSys S) where
                 (subst (λ h. Disjoint S h y0.share.filter) x0.same.filter (g.apart n j x0.share y0.share x0.found y0.found off));
             queues = each_set_share (λ e. Each (TakenBy S A e) e.queue) e.num r.phase r.queue w.shares e there k.0 g.queues;
             links = λ j m h. of_share_set S e.num r.phase r.queue w.shares j m h;
-            sends = each_sent_map (SentBy S A e (TakenBy S A e) (Within S e.filter)) (λ j m. OnNew (OfShare S es j) m) (λ j m h. sent_of S A ok es e f.share
-                f.found f.same (found_each (λ e. 0 < length e.members) w.shares e.num e g.some there) j m h) r.sends k.1;
-            numbers = each_sent_map (SentBy S A e (TakenBy S A e) (Within S e.filter)) (λ _ m. OnNew (Numbered w.next) m)
-                (λ j m h. sent_numbered e w.next j m (found_each (λ e. e.num < w.next) w.shares e.num e g.shares_below there) h) r.sends k.1;
+            sends = each_map (λ x. sent_of S A ok es e f.share f.found f.same (found_each (λ e. 0 < length e.members) w.shares e.num e g.some there) x.0 x.1)
+                r.sends k.1;
+            numbers = each_map (λ x h. sent_numbered e w.next x.0 x.1 (found_each (λ e. e.num < w.next) w.shares e.num e g.shares_below there) h) r.sends k.1;
           }
 
   head_of_share : (w : WholeWorld S A) → GlobalAll S A w → (p k : ℕ) (m : Any R) (rest : List (Any R)) → (p == 0) && (k == 0) ≡ false

@@ -1,5 +1,5 @@
 -- That a world shows a state of the machine to a unit in a move (`Holds`), with the labels of messages, rules and open moves.
-use Rattle.std.proofs.Common.{◌≡◌, ℕ, true, false, Option, Some, None, List, [], ◌∷◌}
+use Rattle.std.proofs.Common.{◌≡◌, ℕ, true, false, Option, Some, None, List, [], map}
 use Rattle.std.specs.Prelude.{if◌then◌else◌, ◌&&◌, ◌==◌}
 use Rattle.proof_machines.proofs.unit.Machine.{Where, At_a, At_b, At_c, Inst, Item, State, idle}
 use Rattle.proof_machines.proofs.unit.Lists.{firsts}
@@ -10,7 +10,7 @@ use Rattle.proof_machines.proofs.unit.Seen.{NodesDiffer, frame_of}
 use Rattle.proof_machines.proofs.unit.Labels.{Each, Without, Clean}
 use Rattle.proof_machines.proofs.unit.Pairs.{Nodes, Sides, expect}
 use Rattle.proof_machines.proofs.unit.Rests.{is_over}
-use Rattle.proof_machines.proofs.unit.NetViews.{items}
+use Rattle.std.specs.List.{filter, filter_map}
 use Rattle.flow_filter.specs.declared.filter.Filter.{Filter}
 use Rattle.proof_machines.proofs.net.Net.{Msg, Mv, Sys, is_free, Ruling, find_rule, rule_of, held_of, NumberedInstance, Open, find_op, World, seen}
 use Rattle.nf_function.specs.declared.unit.Unit as units
@@ -26,8 +26,7 @@ abbrev pub sides_of : Seeing → Sides
 sides_of z = record { source = z.op.src; destination = z.op.dst; third = z.third }
 
 abbrev pub EachSent : {M : Type 0} → (ℕ → M → Type 0) → List (ℕ × M) → Type 0
-EachSent P [] = Prim.Unit {0}
-EachSent P (x ∷ xs) = P x.0 x.1 × EachSent P xs
+EachSent P xs = Each (λ x. P x.0 x.1) xs
 
 module _ {R : Type 0} (S : Sys R) (z : Seeing) where
   abbrev pub frame : Frame
@@ -67,7 +66,7 @@ module _ {R : Type 0} (S : Sys R) (z : Seeing) where
 
   -- what is seen of a link; the input isn't one
   abbrev pub shows : (ℕ → ℕ → List (Msg R)) → ℕ → ℕ → List (Item R)
-  shows l i j = if (i == 0) && (j == 0) then [] else items (seen frame) (l i j)
+  shows l i j = if (i == 0) && (j == 0) then [] else filter_map (seen frame) (l i j)
 
   abbrev pub node_at : State R → ℕ → Inst R
   node_at x k = if k == z.op.src then x.a else if k == z.op.dst then x.b else if k == z.third then x.c else idle None
@@ -84,8 +83,7 @@ module _ {R : Type 0} (S : Sys R) (z : Seeing) where
 
   -- packets of the unit among those done
   abbrev pub done_of : List (ℕ × ℕ) → List ℕ
-  done_of [] = []
-  done_of (d ∷ ds) = if same_unit (S.packet_unit d.0) z.unit then d.0 ∷ done_of ds else done_of ds
+  done_of ds = filter frame.mine (map (λ d. d.0) ds)
 
   -- at the state of the machine that a seat has
   pub record Holds (w : World S) (x : State R) : Type 0 where

@@ -1,6 +1,10 @@
 -- An instance takes a message of a move: to a unit of that move it is the machine's row, to another unit nothing.
+use Rattle.proof_machines.proofs.EachLaws.{each_made}
+use Rattle.proof_machines.proofs.Tests.{by_if}
+use Rattle.proof_machines.proofs.unit.Real.{sent_either}
+use Rattle.proof_machines.proofs.unit.SeenInst.{put_answers}
 use Rattle.proof_machines.proofs.net.Words.{◌≡◌, ℕ, Bool, true, false, Option, Some, None, List, [], ◌∷◌, map, length, refl, sym, ap, ◌∙◌, subst, if◌then◌else◌}
-use Rattle.proof_machines.proofs.net.Words.{◌&&◌, ◌==◌, eqb-true, both_ways, Where, At_a, At_b, Rule, Part, Inst, Did, Item, Enable, Stream, Delete, Put}
+use Rattle.proof_machines.proofs.net.Words.{◌&&◌, ◌==◌, eqb-true, both_ways, Where, Rule, Part, Inst, Did, Item, Enable, Stream, Delete, Put}
 use Rattle.proof_machines.proofs.net.Words.{Restore, Fence_to, ArePiecesOf, Chunks, record_at, RPiece, M_enable, M_stream, M_delete, M_put, M_restore}
 use Rattle.proof_machines.proofs.net.Words.{M_enabled, M_piece, M_forward, M_install, M_fence_to, Frame, where_true, see, sends_to, view, only_mine, Each}
 use Rattle.proof_machines.proofs.net.Words.{Without, cut_foreign, all_at, marks, chop, joined-chop, SeesInstance, r_stream, r_delete, r_restore, r_put}
@@ -150,20 +154,19 @@ module _ {R : Type 0} (S : Sys R) (laws : IsSys S) (z : Seeing) (num : (z.op.num
       (λ e. of_other (r_restore S.F S.B m cs i.live) (laws.laws.restored z.unit cs i.live ∙ ap (λ o. joined S.F o (S.B.at z.unit i.live)) (l e))
       (rw e refl) ((refl, tt), tt)))
 
-  -- a put, by whether it is the first, refused, the last
-  put_label : (m : ℕ) (p : RPiece R) (first : Bool) (refuse : Option Answer) (last : Bool) → p.last ≡ last → ((m == n) ≡ false → Without z.unit p)
+  -- a put, by whether it is the first, and refused
+  put_label : (m : ℕ) (p : RPiece R) (first : Bool) (refuse : Option Answer) → ((m == n) ≡ false → Without z.unit p)
       → EachSent (λ j x. Label S z 1 x) (map to_ctrl (r_put S.F S.B m first refuse p i.live).1)
-  put_label m p false refuse true e l = rw e ((refl, tt), tt)
-  put_label m p false refuse false e l = rw e tt
-  put_label m p true None last e l = ((refl, tt), tt)
-  put_label m p true (Some why) last e l = ((refl, l), tt)
+  put_label m p first refuse l = each_made _ to_ctrl (λ _ k. (refl, k)) _ (put_answers S.F S.B (MoveLabel S z everything) m first refuse p i.live tt (λ _. l))
 
-  put_other : (m : ℕ) (p : RPiece R) (first : Bool) (refuse : Option Answer) (last : Bool) → p.last ≡ last → (m == n) ≡ false → Without z.unit p
+  put_other : (m : ℕ) (p : RPiece R) (first : Bool) (refuse : Option Answer) → (m == n) ≡ false → Without z.unit p
       → (S.B.at z.unit (r_put S.F S.B m first refuse p i.live).0 ≡ S.B.at z.unit i.live) × (view fr (r_put S.F S.B m first refuse p i.live).1 ≡ [])
-  put_other m p false refuse true e off l = (laws.laws.restored z.unit p.chunks i.live ∙ ap (λ o. joined S.F o (S.B.at z.unit i.live)) l, rw (e, off) refl)
-  put_other m p false refuse false e off l = (laws.laws.restored z.unit p.chunks i.live ∙ ap (λ o. joined S.F o (S.B.at z.unit i.live)) l, rw e refl)
-  put_other m p true None last e off l = (laws.laws.imported z.unit p.chunks i.live ∙ ap (λ o. joined S.F o (S.B.at z.unit i.live)) l, rw off refl)
-  put_other m p true (Some why) last e off l = (refl, rw off refl)
+  put_other m p false refuse off l = (
+    laws.laws.restored z.unit p.chunks i.live ∙ ap (λ o. joined S.F o (S.B.at z.unit i.live)) l,
+    by_if (λ ms. view fr ms ≡ []) p.last (rw off refl) refl,
+  )
+  put_other m p true None off l = (laws.laws.imported z.unit p.chunks i.live ∙ ap (λ o. joined S.F o (S.B.at z.unit i.live)) l, rw off refl)
+  put_other m p true (Some why) off l = (refl, rw off refl)
 
   put_goes : (g : Filter) (m : ℕ) (p : RPiece R) (first : Bool) → ((m == n) ≡ false → Without z.unit p)
       → MovesInstance (on_move S i g (M_put m p first)) (Real.seen fr (M_put m p first))
@@ -172,32 +175,22 @@ module _ {R : Type 0} (S : Sys R) (laws : IsSys S) (z : Seeing) (num : (z.op.num
       let same : m ≡ n = eqb-true m n e in
       subst (λ q. MovesInstance (on_move S i g (M_put q p first)) (Some (Put (see fr p) first))) (sym same)
       (Puts_in (S.refuse i.room i.live p) (see fr p) first refl (λ parts. of_table (r_put S.F S.B n first (S.refuse i.room i.live p) p i.live)
-      (do_it parts (S.refuse i.room i.live p) (Some (Put (see fr p) first))) (put_seen S.F S.B laws.laws w fr x i.live s.live num p first p.last parts
-      (S.refuse i.room i.live p) refl) (put_label n p first (S.refuse i.room i.live p) p.last refl (λ off. absurd (both_ways (n == n) off num))))))
+      (do_it parts (S.refuse i.room i.live p) (Some (Put (see fr p) first))) (put_seen S.F S.B laws.laws w fr x i.live s.live num p first parts
+      (S.refuse i.room i.live p)) (put_label n p first (S.refuse i.room i.live p) (λ off. absurd (both_ways (n == n) off num))))))
       (λ e.
-      let q = put_other m p first (S.refuse i.room i.live p) p.last refl e (l e) in
+      let q = put_other m p first (S.refuse i.room i.live p) e (l e) in
       Any (λ parts refuse. of_other (r_put S.F S.B m first (S.refuse i.room i.live p) p i.live) q.0 q.1
-      (put_label m p first (S.refuse i.room i.live p) p.last refl l)))
+      (put_label m p first (S.refuse i.room i.live p) l)))
 
-  side_idle : (b c : Bool) (it : Where → Item R)
-      → ((v : Where) (parts : List (Part R)) (refuse : Option Answer) → do_it parts refuse (Some (it v)) ≡ did_sends x [])
-      → (parts : List (Part R)) (refuse : Option Answer) → do_it parts refuse (Some (if b then it At_a else if c then it At_b else Stray)) ≡ did_sends x []
-  side_idle true c it e parts refuse = e At_a parts refuse
-  side_idle false true it e parts refuse = e At_b parts refuse
-  side_idle false false it e parts refuse = refl
+  abbrev IsIdle : Item R → Type 0
+  IsIdle it = (parts : List (Part R)) (refuse : Option Answer) → do_it parts refuse (Some it) ≡ did_sends x []
 
-  when_seen : (b : Bool) (it : Item R) → ((parts : List (Part R)) (refuse : Option Answer) → do_it parts refuse (Some it) ≡ did_sends x [])
-      → (parts : List (Part R)) (refuse : Option Answer) → do_it parts refuse (where_true b it) ≡ did_sends x []
+  when_seen : (b : Bool) (it : Item R) → IsIdle it → (parts : List (Part R)) (refuse : Option Answer) → do_it parts refuse (where_true b it) ≡ did_sends x []
   when_seen true it e parts refuse = e parts refuse
   when_seen false it e parts refuse = refl
 
-  seen_idle : (o : Option (Item R)) (b : Bool) (it : Item R) → o ≡ where_true b it
-      → ((parts : List (Part R)) (refuse : Option Answer) → do_it parts refuse (Some it) ≡ did_sends x []) → MovesInstance (says S i []) o
+  seen_idle : (o : Option (Item R)) (b : Bool) (it : Item R) → o ≡ where_true b it → IsIdle it → MovesInstance (says S i []) o
   seen_idle o b it e idle = idle_on o (λ parts refuse. ap (do_it parts refuse) e ∙ when_seen b it idle parts refuse)
-
-  install_idle : (b : Bool) (parts : List (Part R)) (refuse : Option Answer) → do_it parts refuse (Some (if b then Install else Stray)) ≡ did_sends x []
-  install_idle true parts refuse = refl
-  install_idle false parts refuse = refl
 
   pub move_goes : (g : Filter) (m : Real.Msg R) → MoveLabel S z g m → MovesInstance (on_move S i g m) (Real.seen fr m)
   move_goes g (M_enable m k) l = enable_goes g m k l
@@ -206,9 +199,10 @@ module _ {R : Type 0} (S : Sys R) (laws : IsSys S) (z : Seeing) (num : (z.op.num
   move_goes g (M_put m p first) l = put_goes g m p first l
   move_goes g (M_restore m cs) l = restore_goes g m cs l
   move_goes g (M_forward p to) l = idle_on (Real.seen fr (M_forward p to))
-      (when_seen (fr.mine p) (sends_to fr to (λ v. Forward v p)) (side_idle (to == fr.from) (to == fr.to) (λ v. Forward v p) (λ _ _ _. refl)))
+      (when_seen (fr.mine p) (sends_to fr to (λ v. Forward v p)) (sent_either IsIdle fr to (λ v. Forward v p) (λ _ _ _. refl) (λ _ _. refl)))
   move_goes g (M_install m from to) l = idle_on (Real.seen fr (M_install m from to))
-      (when_seen (m == n) (if (from == fr.from) && (to == fr.to) then Install else Stray) (install_idle ((from == fr.from) && (to == fr.to))))
+      (when_seen (m == n) (if (from == fr.from) && (to == fr.to) then Install else Stray)
+      (by_if IsIdle ((from == fr.from) && (to == fr.to)) (λ _ _. refl) (λ _ _. refl)))
   move_goes g (M_fence_to m to) l = idle_on (Real.seen fr (M_fence_to m to))
-      (when_seen (m == n) (sends_to fr to (λ v. Fence_to v)) (side_idle (to == fr.from) (to == fr.to) (λ v. Fence_to v) (λ _ _ _. refl)))
+      (when_seen (m == n) (sends_to fr to (λ v. Fence_to v)) (sent_either IsIdle fr to (λ v. Fence_to v) (λ _ _ _. refl) (λ _ _. refl)))
   move_goes g m l = seen_idle (Real.seen fr m) _ _ refl (λ _ _. refl)

@@ -1,12 +1,13 @@
 -- An instance's step leads from a world that shows a seat to one that shows a seat, whatever it takes.
+use Rattle.proof_machines.proofs.EachLaws.{each_map}
 use Rattle.proof_machines.proofs.net.Words.{◌≡◌, ◌≢◌, ℕ, Bool, true, false, Option, Some, None, List, [], ◌∷◌, ◌++◌, refl, sym, ap, ◌∙◌, subst, append-nil}
 use Rattle.proof_machines.proofs.net.Words.{arith, if◌then◌else◌, ◌&&◌, ◌==◌, nat_tests, Decides-eqb, same_Some, Where, At_a, At_b, At_c, Part, Inst, Did}
 use Rattle.proof_machines.proofs.net.Words.{inst_does, Item, Stream, Put, State, MachineStep, Take_sa, Take_sb, Take_ca, Take_cb, moved, put_a, put_b, put_c}
-use Rattle.proof_machines.proofs.net.Words.{firsts, firsts-append, ArePiecesOf, IsOrderedAs, Allowed, arrived_by, add, sent_for, some_parts, expect, after_take}
+use Rattle.proof_machines.proofs.net.Words.{firsts, map-append, ArePiecesOf, IsOrderedAs, Allowed, arrived_by, add, sent_for, some_parts, expect, after_take}
 use Rattle.proof_machines.proofs.net.Words.{a_from_s, a_from_c, b_from_s, b_from_c, c_from_s, nothing_seen, ShownBy, By_sa, By_sb, By_sc, By_ca, By_cb, By_ac}
 use Rattle.proof_machines.proofs.net.Words.{By_bc, By_cc, By_cs, shown_by, Each, UnitSeat, is_covered, seat_shape, seat_all, seat_loose, seat_goes_on}
-use Rattle.proof_machines.proofs.net.Words.{covered_stays, seat_allowed, base_of, items, inst_next, Msg, In_packet, Asked, Carry_on, Pass_on, Fence_on, Mv, Sys}
-use Rattle.proof_machines.proofs.net.Words.{IsSys, NumberedInstance, InstanceTurn, inst_step, World, links_after, at_node, seen, find_op, Seeing, sides_of}
+use Rattle.proof_machines.proofs.net.Words.{covered_stays, seat_allowed, base_of, filter_map, inst_next, Msg, In_packet, Asked, Carry_on, Pass_on, Fence_on, Mv}
+use Rattle.proof_machines.proofs.net.Words.{Sys, IsSys, NumberedInstance, InstanceTurn, inst_step, World, links_after, at_node, seen, find_op, Seeing, sides_of}
 use Rattle.proof_machines.proofs.net.Words.{EachSent, frame, Label, SeesNode, shows, node_at, done_of, Holds, IsController, sent, head, view_some, view_none}
 use Rattle.proof_machines.proofs.net.Words.{done_of-append, done_at, each_after, Answer, either_way, split, did_sends}
 use Rattle.proof_machines.proofs.unit.Machine.{Take_sc}
@@ -14,7 +15,8 @@ use Rattle.proof_machines.proofs.unit.Stages.{shape}
 use Rattle.proof_machines.proofs.unit.Fresh.{taken_sa, taken_sb}
 use Rattle.proof_machines.proofs.net.Insts.{InstanceGoes, does, carry_goes, pass_goes, fence_goes}
 use Rattle.proof_machines.proofs.net.InstMoves.{MovesInstance, Any, Streams_out, Puts_in, move_goes}
-use Rattle.proof_machines.proofs.net.OnLinks.{no_put, no_stream, ok_head, ca_kind, cb_kind}
+use Rattle.proof_machines.proofs.unit.Lists.{head_passes}
+use Rattle.proof_machines.proofs.net.OnLinks.{no_put, no_stream, ca_kind, cb_kind}
 
 falsely : false ≡ true → ⊥
 falsely e = cc
@@ -29,8 +31,7 @@ module _ {R : Type 0} (S : Sys R) (laws : IsSys S) (z : Seeing) where
 
   -- labels of what an instance sends
   relabel : (y : ℕ) (xs : List (ℕ × Msg R)) → (y == 0) ≡ false → EachSent (λ j m. Label S z 1 m) xs → EachSent (λ j m. Label S z y m) xs
-  relabel y [] y0 h = tt
-  relabel y (x ∷ xs) y0 h = (by_msg x.1 h.0, relabel y xs y0 h.1)
+  relabel y xs y0 h = each_map (λ x l. by_msg x.1 l) xs h
     where
       by_msg : (m : Msg R) → Label S z 1 m → Label S z y m
       by_msg (Mv g m) l = (y0, l.1)
@@ -107,7 +108,7 @@ module _ {R : Type 0} (S : Sys R) (laws : IsSys S) (z : Seeing) where
       ctrl = by_op (find_op w.ops z.op.num) h.ctrl;
       ops = h.ops;
       done = done_of-append S z w.done (at_node y did.ran) ∙ ap (λ v. v ++ done_of S z (at_node y did.ran)) h.done
-          ∙ ap (λ v. firsts x.done ++ v) (done_at S z y did.ran ∙ g.ran) ∙ sym (firsts-append x.done d.ran) ∙ ap firsts (sym done);
+          ∙ ap (λ v. firsts x.done ++ v) (done_at S z y did.ran ∙ g.ran) ∙ sym (map-append _ x.done d.ran) ∙ ap firsts (sym done);
     }
       where
         by_op : (o : Option (Rattle.proof_machines.proofs.net.Net.Open R)) → IsController S z o x → IsController S z o x'
@@ -140,13 +141,13 @@ module _ {R : Type 0} (S : Sys R) (laws : IsSys S) (z : Seeing) where
 
         sent_none : InstanceGoes S laws z num did (did_sends (node_at S z x y) []) → (j : ℕ) → sent S z y did.sends j ≡ []
         sent_none g j = rw y0 (either_way (1 == j)
-            (λ e. let same : 1 ≡ j = (Decides-eqb 1 j).0 e in subst (λ q. items (seen (frame S z)) (sent_for q did.sends) ≡ []) same g.to_c)
+            (λ e. let same : 1 ≡ j = (Decides-eqb 1 j).0 e in subst (λ q. filter_map (seen (frame S z)) (sent_for q did.sends) ≡ []) same g.to_c)
             (λ e. g.others j e))
 
     -- an item is seen
     module _ (it : Item R) (is : seen (frame S z) m ≡ Some it) where
       abbrev v : List (Item R)
-      v = items (seen (frame S z)) rest
+      v = filter_map (seen (frame S z)) rest
 
       pub shown : it ∷ v ≡ expect z.op.src z.op.dst z.third x p y
       shown = ap (λ o. add o v) (sym is) ∙ head S z w.link p y m rest waits no_input did.sends ∙ h.views p y
@@ -264,7 +265,7 @@ module _ {R : Type 0} (S : Sys R) (laws : IsSys S) (z : Seeing) where
           by_kind (Streams_out parts fits _ f) = ca_goes parts ya p1 e fits (seen_it At_a parts None x.a (f None))
           by_kind (Puts_in refuse k first o f) =
               let same_it : it ≡ Put k first = same_Some _ _ (sym is ∙ o) in
-              let never : false ≡ true = ap no_put (sym same_it) ∙ ok_head no_put it v x.ca (ca_kind S.F s) e in absurd (falsely never)
+              let never : false ≡ true = ap no_put (sym same_it) ∙ head_passes no_put it v x.ca e (ca_kind S.F s) in absurd (falsely never)
 
       cb_goes : (refuse : Option Answer) → y ≡ z.op.dst → p ≡ 1 → x.cb ≡ it ∷ v → InstanceGoes S laws z num did (inst_does S.F At_b [] refuse x.b it)
           → Goes_to (inst_next S w p y m) s []
@@ -289,7 +290,7 @@ module _ {R : Type 0} (S : Sys R) (laws : IsSys S) (z : Seeing) where
           by_kind (Puts_in refuse k first _ f) = cb_goes refuse yb p1 e (seen_it At_b [] refuse x.b (f []))
           by_kind (Streams_out parts fits o f) =
               let same_it : it ≡ Stream = same_Some _ _ (sym is ∙ o) in
-              let never : false ≡ true = ap no_stream (sym same_it) ∙ ok_head no_stream it v x.cb (cb_kind S.F s) e in absurd (falsely never)
+              let never : false ≡ true = ap no_stream (sym same_it) ∙ head_passes no_stream it v x.cb e (cb_kind S.F s) in absurd (falsely never)
 
       not_one : y ≡ 1 → ⊥
       not_one e = let never : (1 == 1) ≡ false = subst (λ q. (q == 1) ≡ false) e y1 in cc
@@ -312,5 +313,5 @@ module _ {R : Type 0} (S : Sys R) (laws : IsSys S) (z : Seeing) where
     pub inst_holds : Goes_to (inst_next S w p y m) s []
     inst_holds = elim (seen (frame S z) m) as (λ o. seen (frame S z) m ≡ o → Goes_to (inst_next S w p y m) s []) [
       | None ↦ λ none. quiet_inst none
-      | Some it ↦ λ is. moves_inst it is (shown_by z.op.src z.op.dst z.third h.nodes x p y it (items (seen (frame S z)) rest) (shown it is))
+      | Some it ↦ λ is. moves_inst it is (shown_by z.op.src z.op.dst z.third h.nodes x p y it (filter_map (seen (frame S z)) rest) (shown it is))
     ] refl

@@ -1,14 +1,15 @@
 -- An instance takes a packet or a fence: one unit sees the machine's step of that side, or nothing.
 use Rattle.proof_machines.proofs.net.Words.{◌≡◌, ℕ, Bool, true, false, Option, Some, None, List, [], ◌∷◌, ◌++◌, map, refl, sym, ap, ◌∙◌, subst, append-nil}
-use Rattle.proof_machines.proofs.net.Words.{if◌then◌else◌, ◌==◌, option_map, eqb-true, Where, on, Rule, Free, Drops, Buffers, Part, Inst, Did, inst_does}
+use Rattle.proof_machines.proofs.net.Words.{if◌then◌else◌, ◌==◌, option_map, eqb-true, Where, Rule, Free, Drops, Buffers, Part, Inst, Did, inst_does}
 use Rattle.proof_machines.proofs.net.Words.{carried, ran_one, Item, Pass, firsts, firsts-on, M_event, M_fenced, Frame, where_true, add, view, only_mine}
-use Rattle.proof_machines.proofs.net.Words.{sent_for, only_mine-append, Each, items, Filter, Carry_on, Pass_on, Fence_on, Sys, IsSys, Ruling, first_rule}
+use Rattle.proof_machines.proofs.net.Words.{sent_for, filter-append, Each, filter_map, Filter, Carry_on, Pass_on, Fence_on, Sys, IsSys, Ruling, first_rule}
 use Rattle.proof_machines.proofs.net.Words.{find_rule, set_rule, hold, holding, drop_rule, rule_of, is_free, held_of, to_ctrl, NumberedInstance, InstanceTurn}
 use Rattle.proof_machines.proofs.net.Words.{process, process_all, runs_it, by_kind, by_rule, fenced, inst_step, seen, Seeing, EachSent, frame, Label, RuleLabel}
-use Rattle.proof_machines.proofs.net.Words.{SeesNode, same_unit, same_unit-true, Answer, either_way, split, by_if, did_sends}
-use Rattle.proof_machines.proofs.unit.Machine.{runs, Carry, Fence}
+use Rattle.proof_machines.proofs.net.Words.{SeesNode, same_unit, same_unit-true, Answer, either_way, split, did_sends}
+use Rattle.proof_machines.proofs.unit.Machine.{fold, Carry, Fence}
 use Rattle.proof_machines.proofs.unit.Real
-use Rattle.proof_machines.proofs.net.RuleLists.{each-change, each_set, find_hold_other, find_hold_own, hold_rule}
+use Rattle.proof_machines.proofs.NumberedLists.{find-drop_own, find-drop_other, each-drop, each-change, found_number}
+use Rattle.proof_machines.proofs.net.RuleLists.{each_set, find_hold_other, find_hold_own, hold_rule}
 
 module _ {R : Type 0} (S : Sys R) (laws : IsSys S) (z : Seeing) (num : (z.op.num == z.op.num) ≡ true) where
   abbrev fr : Frame
@@ -32,14 +33,6 @@ module _ {R : Type 0} (S : Sys R) (laws : IsSys S) (z : Seeing) (num : (z.op.num
       (λ e. l.0.1 (let same : r.num ≡ m = eqb-true r.num m e in rw same off))
       (λ _. found_label m rs l.1 off)
 
-  -- another rule is taken away
-  find_drop_other : (m : ℕ) (rs : List Ruling) → (m == n) ≡ false → find_rule n (drop_rule m rs) ≡ find_rule n rs
-  find_drop_other m [] off = refl
-  find_drop_other m (r ∷ rs) off =
-      split (r.num == m) (λ b. find_rule n (if b then drop_rule m rs else r ∷ drop_rule m rs) ≡ (if r.num == n then Some r else find_rule n rs))
-      (λ e. let same : r.num ≡ m = eqb-true r.num m e in let out : (r.num == n) ≡ false = rw same off in rw out (find_drop_other m rs off))
-      (λ _. ap (λ o. if r.num == n then Some r else o) (find_drop_other m rs off))
-
   -- a packet of another unit is held, and one of its own
   hold_else : (m p : ℕ) (rs : List Ruling) → mine p ≡ false → only_mine fr (held_of (find_rule n (hold m p rs))) ≡ only_mine fr (held_of (find_rule n rs))
   hold_else m p rs off =
@@ -51,15 +44,10 @@ module _ {R : Type 0} (S : Sys R) (laws : IsSys S) (z : Seeing) (num : (z.op.num
     where
       still : (o : Option Ruling) → only_mine fr (held_of (option_map (holding p) o)) ≡ only_mine fr (held_of o)
       still None = refl
-      still (Some r) = only_mine-append fr r.held (p ∷ []) ∙ rw off (append-nil (only_mine fr r.held))
+      still (Some r) = filter-append _ r.held (p ∷ []) ∙ rw off (append-nil (only_mine fr r.held))
 
   hold_own_held : (p : ℕ) (rs : List Ruling) (r : Ruling) → find_rule n rs ≡ Some r → held_of (find_rule n (hold n p rs)) ≡ r.held ++ p ∷ []
   hold_own_held p rs r e = ap held_of (find_hold_own n p rs ∙ ap (option_map (holding p)) e)
-
-  drop_own : (rs : List Ruling) → find_rule n (drop_rule n rs) ≡ None
-  drop_own [] = refl
-  drop_own (r ∷ rs) = split (r.num == n) (λ b. find_rule n (if b then drop_rule n rs else r ∷ drop_rule n rs) ≡ None) (λ e. drop_own rs)
-      (λ e. rw e (drop_own rs))
 
   -- labels of rules
   pub label_set : (m : ℕ) (g : Filter) (k : Rule) (rs : List Ruling) → (S.takes g z.unit ≡ (m == n)) × (is_free k ≡ false) → Each (RuleLabel S z) rs
@@ -67,15 +55,11 @@ module _ {R : Type 0} (S : Sys R) (laws : IsSys S) (z : Seeing) (num : (z.op.num
   label_set m g k rs e l =
       each_set (RuleLabel S z) m g k rs (λ r same h. (let at : r.num ≡ m = eqb-true r.num m same in rw at e.0, h.1, e.1)) (e.0, (λ _. refl), e.1) l
 
-  label_drop : (m : ℕ) (rs : List Ruling) → Each (RuleLabel S z) rs → Each (RuleLabel S z) (drop_rule m rs)
-  label_drop m [] l = tt
-  label_drop m (r ∷ rs) l = by_if (Each (RuleLabel S z)) (r.num == m) (label_drop m rs l.1) (l.0, label_drop m rs l.1)
-
   more_else : (h : List ℕ) (p : ℕ) → only_mine fr h ≡ [] → mine p ≡ false → only_mine fr (h ++ p ∷ []) ≡ []
-  more_else h p e off = only_mine-append fr h (p ∷ []) ∙ rw (e, off) refl
+  more_else h p e off = filter-append _ h (p ∷ []) ∙ rw (e, off) refl
 
   label_hold : (m p : ℕ) (rs : List Ruling) → ((m == n) ≡ false → mine p ≡ false) → Each (RuleLabel S z) rs → Each (RuleLabel S z) (hold m p rs)
-  label_hold m p rs off l = each-change (RuleLabel S z) m (holding p)
+  label_hold m p rs off l = each-change _ (RuleLabel S z) m (holding p)
       (λ r same h. (h.0, (λ t. more_else r.held p (h.1 t) (off (let at : r.num ≡ m = eqb-true r.num m same in rw (← at) t))), h.2)) rs l
 
   -- tables
@@ -87,39 +71,32 @@ module _ {R : Type 0} (S : Sys R) (laws : IsSys S) (z : Seeing) (num : (z.op.num
   process_other : (t : S.B.T) (p : ℕ) → mine p ≡ false → S.B.at z.unit (process S t p) ≡ S.B.at z.unit t
   process_other t p e = laws.written z.unit (S.packet_unit p) (S.F.step (S.B.at (S.packet_unit p) t) p) t ∙ rw e refl
 
-  process_seen : (w : Where) (t : S.B.T) (ps : List ℕ) (o : Option R) → S.B.at z.unit t ≡ o
-      → S.B.at z.unit (process_all S t ps) ≡ runs S.F o (map (on w) (only_mine fr ps))
-  process_seen w t [] o e = e
-  process_seen w t (p ∷ ps) o e =
-      split (mine p) (λ b. S.B.at z.unit (process_all S (process S t p) ps) ≡ runs S.F o (map (on w) (if b then p ∷ only_mine fr ps else only_mine fr ps)))
-      (λ is. process_seen w (process S t p) ps (Some (S.F.step o p)) (process_mine t p is ∙ ap (λ x. Some (S.F.step x p)) e))
-      (λ off. process_seen w (process S t p) ps o (process_other t p off ∙ e))
+  process_seen : (t : S.B.T) (ps : List ℕ) (o : Option R) → S.B.at z.unit t ≡ o → S.B.at z.unit (process_all S t ps) ≡ fold S.F o (only_mine fr ps)
+  process_seen t [] o e = e
+  process_seen t (p ∷ ps) o e =
+      split (mine p) (λ b. S.B.at z.unit (process_all S (process S t p) ps) ≡ fold S.F o (if b then p ∷ only_mine fr ps else only_mine fr ps))
+      (λ is. process_seen (process S t p) ps (Some (S.F.step o p)) (process_mine t p is ∙ ap (λ x. Some (S.F.step x p)) e))
+      (λ off. process_seen (process S t p) ps o (process_other t p off ∙ e))
 
   -- what an instance's step is to the unit
   pub record InstanceGoes (did : InstanceTurn S) (d : Did R) : Type 0 where
     pub node : SeesNode S z did.node d.inst
-    pub to_c : items (seen fr) (sent_for 1 did.sends) ≡ d.to_c
-    pub others : (j : ℕ) → (1 == j) ≡ false → items (seen fr) (sent_for j did.sends) ≡ []
+    pub to_c : filter_map (seen fr) (sent_for 1 did.sends) ≡ d.to_c
+    pub others : (j : ℕ) → (1 == j) ≡ false → filter_map (seen fr) (sent_for j did.sends) ≡ []
     pub labels : EachSent (λ j m. Label S z 1 m) did.sends
     pub ran : only_mine fr did.ran ≡ firsts d.ran
 
   -- what is sent to the controller
-  pub ctrl_sends : (g : Filter) (ms : List (Real.Msg R)) → items (seen fr) (sent_for 1 (map to_ctrl ms)) ≡ view fr ms
+  pub ctrl_sends : (g : Filter) (ms : List (Real.Msg R)) → filter_map (seen fr) (sent_for 1 (map to_ctrl ms)) ≡ view fr ms
   ctrl_sends g [] = refl
   ctrl_sends g (m ∷ ms) = ap (λ x. add (Real.seen fr m) x) (ctrl_sends g ms)
 
-  pub ctrl_else : (ms : List (Real.Msg R)) (j : ℕ) → (1 == j) ≡ false → items (seen fr) (sent_for j (map to_ctrl ms)) ≡ []
+  pub ctrl_else : (ms : List (Real.Msg R)) (j : ℕ) → (1 == j) ≡ false → filter_map (seen fr) (sent_for j (map to_ctrl ms)) ≡ []
   ctrl_else [] j e = refl
   ctrl_else (m ∷ ms) j e = rw e (ctrl_else ms j e)
 
-  pub one_else : (m : Real.Msg R) (j : ℕ) → (1 == j) ≡ false → items (seen fr) (sent_for j (to_ctrl m ∷ [])) ≡ []
+  pub one_else : (m : Real.Msg R) (j : ℕ) → (1 == j) ≡ false → filter_map (seen fr) (sent_for j (to_ctrl m ∷ [])) ≡ []
   one_else m j e = rw e refl
-
-  pub found_num : (rs : List Ruling) (r : Ruling) → find_rule n rs ≡ Some r → (r.num == n) ≡ true
-  found_num [] r e = cc
-  found_num (x ∷ rs) r e = split (x.num == n) (λ b. (if b then Some x else find_rule n rs) ≡ Some r → (r.num == n) ≡ true)
-      (λ t is. let same : x ≡ r = cc in rw (← same) t)
-      (λ t is. found_num rs r is) e
 
   -- what the machine's instance does on what is seen
   abbrev pub does : Where → List (Part R) → Option Answer → Inst R → Option (Item R) → Did R
@@ -154,7 +131,7 @@ module _ {R : Type 0} (S : Sys R) (laws : IsSys S) (z : Seeing) (num : (z.op.num
       node = record {
         live = s.live;
         rule = hold_rule n n p i.rules ∙ s.rule;
-        held = ap (only_mine fr) (hold_own_held p i.rules r e) ∙ only_mine-append fr r.held (p ∷ [])
+        held = ap (only_mine fr) (hold_own_held p i.rules r e) ∙ filter-append _ r.held (p ∷ [])
             ∙ ap (λ h. h ++ only_mine fr (p ∷ [])) (ap (λ o. only_mine fr (held_of o)) (sym e) ∙ s.held) ∙ rw is refl;
         rules = label_hold n p i.rules (λ off. let both : true ≡ false = sym num ∙ off in cc) s.rules;
       };
@@ -191,7 +168,7 @@ module _ {R : Type 0} (S : Sys R) (laws : IsSys S) (z : Seeing) (num : (z.op.num
         let free : x.rule ≡ Free = sym s.rule ∙ ap rule_of e in subst (λ k. InstanceGoes (runs_it S i p) (carried S.F w k x p)) (sym free) (runs_mine p is)
     rule_mine p (Some r) is e =
         let kind : x.rule ≡ r.rule = sym s.rule ∙ ap rule_of e in
-        let its : r.num ≡ n = eqb-true r.num n (found_num i.rules r e) in
+        let its : r.num ≡ n = eqb-true r.num n (found_number _ n i.rules r e) in
         subst (λ k. InstanceGoes (by_kind S i p r.num r.rule) (carried S.F w k x p)) (sym kind)
         (subst (λ m. InstanceGoes (by_kind S i p m r.rule) (carried S.F w r.rule x p)) (sym its) (kind_mine p r.rule r is e))
 
@@ -222,10 +199,10 @@ module _ {R : Type 0} (S : Sys R) (laws : IsSys S) (z : Seeing) (num : (z.op.num
         (λ e. let same : m ≡ n = eqb-true m n e in
         subst (λ k. InstanceGoes (fenced S i k (held_of (find_rule k i.rules))) (inst_does S.F w parts refuse x Fence)) (sym same) (record {
           node = record {
-            live = process_seen w i.live (held_of (find_rule n i.rules)) x.live s.live ∙ ap (λ h. runs S.F x.live (map (on w) h)) s.held;
-            rule = ap rule_of (drop_own i.rules);
-            held = ap (λ o. only_mine fr (held_of o)) (drop_own i.rules);
-            rules = label_drop n i.rules s.rules;
+            live = process_seen i.live (held_of (find_rule n i.rules)) x.live s.live ∙ ap (fold S.F x.live) s.held;
+            rule = ap rule_of (find-drop_own _ n i.rules);
+            held = ap (λ o. only_mine fr (held_of o)) (find-drop_own _ n i.rules);
+            rules = each-drop _ (RuleLabel S z) n i.rules s.rules;
           };
           to_c = rw num refl;
           others = λ j off. one_else (M_fenced n) j off;
@@ -234,13 +211,13 @@ module _ {R : Type 0} (S : Sys R) (laws : IsSys S) (z : Seeing) (num : (z.op.num
         }))
         (λ e.
         let none = found_label m i.rules s.rules e in
-        let same = find_drop_other m i.rules e in
+        let same : find_rule n (drop_rule m i.rules) ≡ find_rule n i.rules = find-drop_other _ m n i.rules e in
         record {
           node = record {
-            live = process_seen w i.live (held_of (find_rule m i.rules)) x.live s.live ∙ ap (λ h. runs S.F x.live (map (on w) h)) none;
+            live = process_seen i.live (held_of (find_rule m i.rules)) x.live s.live ∙ ap (fold S.F x.live) none;
             rule = ap rule_of same ∙ s.rule;
             held = ap (λ o. only_mine fr (held_of o)) same ∙ s.held;
-            rules = label_drop m i.rules s.rules;
+            rules = each-drop _ (RuleLabel S z) m i.rules s.rules;
           };
           to_c = rw e refl;
           others = λ j off. one_else (M_fenced m) j off;

@@ -7,10 +7,13 @@ use Rattle.proof_machines.proofs.unit.Machine.{Item}
 use Rattle.proof_machines.proofs.unit.Real.{add, sent_for, only_mine}
 use Rattle.proof_machines.proofs.unit.Labels.{Each, each-append}
 use Rattle.proof_machines.proofs.unit.Pairs.{after_take}
-use Rattle.proof_machines.proofs.unit.NetViews.{items, items-append}
+use Rattle.std.proofs.Common.{map}
+use Rattle.std.specs.List.{filter, filter_map}
+use Rattle.std.proofs.lemmas.List.{map-append}
+use Rattle.std.proofs.lemmas.List.Elements.{filter-append, filter_map-append}
+use Rattle.proof_machines.proofs.unit.Lists.{firsts-on}
 use Rattle.proof_machines.proofs.net.Net.{Msg, Sys, seen, links_after, behind, at_node}
 use Rattle.proof_machines.proofs.net.Holding.{Seeing, EachSent, frame, shows, done_of}
-use Rattle.record_table.specs.Table.{same_unit}
 use Rattle.proof_machines.proofs.Tests.{split}
 
 pub each_behind : {X : Type 0} (P : X → Type 0) (b : Bool) (xs : List X) → Each P xs → Each P (behind b xs)
@@ -46,7 +49,7 @@ each_put P l y sends h s i j off =
 
 module _ {R : Type 0} (S : Sys R) (z : Seeing) where
   abbrev its : List (Msg R) → List (Item R)
-  its ms = items (seen (frame S z)) ms
+  its ms = filter_map (seen (frame S z)) ms
 
   -- what is seen of the sends of node y at node j; the switch sends nothing to the input
   abbrev pub sent : ℕ → List (ℕ × Msg R) → ℕ → List (Item R)
@@ -72,7 +75,7 @@ module _ {R : Type 0} (S : Sys R) (z : Seeing) where
       split ((i == 0) && (j == 0)) (λ t. (if t then [] else its (l i j ++ (if i == y then sent_for j sends else []))) ≡ (if t then [] else its (l i j))
       ++ (if i == y then sent y sends j else []))
       (λ on. sym (nothing_in y i j sends on))
-      (λ off. items-append (seen (frame S z)) (l i j) (if i == y then sent_for j sends else [])
+      (λ off. filter_map-append (seen (frame S z)) (l i j) (if i == y then sent_for j sends else [])
       ∙ ap (λ v. its (l i j) ++ v) (sent_out y i j sends off))
 
   module _ (l : ℕ → ℕ → List (Msg R)) (p y : ℕ) (m : Msg R) (rest : List (Msg R)) (waits : l p y ≡ m ∷ rest) (no_input : (p == 0) && (y == 0) ≡ false)
@@ -86,7 +89,7 @@ module _ {R : Type 0} (S : Sys R) (z : Seeing) where
 
     after_raw : (i j : ℕ) (left : List (Item R)) → (i == 0) && (j == 0) ≡ false → its (behind ((i == p) && (j == y)) (l i j)) ≡ left
         → shows S z (links_after l p y sends) i j ≡ left ++ (if i == y then sent y sends j else [])
-    after_raw i j left off e = rw off (items-append (seen (frame S z)) (behind ((i == p) && (j == y)) (l i j)) (if i == y then sent_for j sends else [])
+    after_raw i j left off e = rw off (filter_map-append (seen (frame S z)) (behind ((i == p) && (j == y)) (l i j)) (if i == y then sent_for j sends else [])
         ∙ ap (λ v. v ++ its (if i == y then sent_for j sends else [])) e ∙ ap (λ v. left ++ v) (sent_out y i j sends off))
 
     -- an item is taken
@@ -120,11 +123,7 @@ module _ {R : Type 0} (S : Sys R) (z : Seeing) where
         left i j false e = refl
 
   pub done_of-append : (x y : List (ℕ × ℕ)) → done_of S z (x ++ y) ≡ done_of S z x ++ done_of S z y
-  done_of-append [] y = refl
-  done_of-append (d ∷ x) y = split (same_unit (S.packet_unit d.0) z.unit)
-      (λ b. (if b then d.0 ∷ done_of S z (x ++ y) else done_of S z (x ++ y)) ≡ (if b then d.0 ∷ done_of S z x else done_of S z x) ++ done_of S z y)
-      (λ _. ap (λ v. d.0 ∷ v) (done_of-append x y)) (λ _. done_of-append x y)
+  done_of-append x y = ap (filter (frame S z).mine) (map-append _ x y) ∙ filter-append _ (map _ x) (map _ y)
 
   pub done_at : (y : ℕ) (ps : List ℕ) → done_of S z (at_node y ps) ≡ only_mine (frame S z) ps
-  done_at y [] = refl
-  done_at y (p ∷ ps) = ap (λ v. if same_unit (S.packet_unit p) z.unit then p ∷ v else v) (done_at y ps)
+  done_at y ps = ap (filter (frame S z).mine) (firsts-on y ps)

@@ -1,10 +1,13 @@
 -- An instance takes a message of a move: a unit under a share sees at most a plain packet of it, or the share's fence (`moves_sees`).
+use Rattle.proof_machines.proofs.EachLaws.{each_made}
+use Rattle.proof_machines.proofs.net.Net.{everything}
+use Rattle.proof_machines.proofs.unit.SeenInst.{put_answers}
 use Rattle.proof_machines.proofs.net.Words.{◌≡◌, ℕ, Bool, true, false, Option, Some, None, List, [], ◌∷◌, map, length, refl, sym, ap, ◌∙◌, subst, arith}
 use Rattle.proof_machines.proofs.net.Words.{if◌then◌else◌, ◌==◌, nat_tests, Free, Drops, Buffers, RPiece, M_enable, M_stream, M_delete, M_put, M_restore}
-use Rattle.proof_machines.proofs.net.Words.{M_piece, M_fenced, M_install, M_fence_to, where_true, add, sent_for, marks, chop, r_put, Carry, Fence, Fenced}
+use Rattle.proof_machines.proofs.net.Words.{M_piece, M_fenced, M_install, M_fence_to, where_true, add, sent_for, marks, chop, Carry, Fence, Fenced}
 use Rattle.proof_machines.proofs.net.Words.{Stray, member_does, Filter, Msg, Carry_on, Pass_on, Fence_on, Mv, Sys, IsSys, Ruling, first_rule, to_ctrl}
 use Rattle.proof_machines.proofs.net.Words.{NumberedInstance, by_kind, by_rule, on_move, inst_step, EachSent, NothingOf, mine, unit_share, move_seen, old_seen}
-use Rattle.proof_machines.proofs.net.Words.{share_items, own_of, Old, as_old, Sharing, SeeingShare, Answer, split}
+use Rattle.proof_machines.proofs.net.Words.{share_items, own_of, Old, as_old, Sharing, SeeingShare, split}
 use Rattle.proof_machines.proofs.unit.Real
 use Rattle.proof_machines.proofs.share.Share as share
 use Rattle.proof_machines.proofs.share.Share.{Item, Did}
@@ -25,19 +28,13 @@ module _ {R : Type 0} (S : Sys R) (A : Sharing S) (z : SeeingShare) where
   pieces_unseen n [] = tt
   pieces_unseen n (p ∷ ps) = (refl, pieces_unseen n ps)
 
-  put_unseen : (n : ℕ) (p : RPiece R) (first : Bool) (refuse : Option Answer) (t : S.B.T) (last : Bool) → p.last ≡ last
-      → Unseen (map to_ctrl (r_put S.F S.B n first refuse p t).1)
-  put_unseen n p false refuse t true e = rw e (refl, tt)
-  put_unseen n p false refuse t false e = rw e tt
-  put_unseen n p true None t last e = (refl, tt)
-  put_unseen n p true (Some why) t last e = (refl, tt)
-
   move_unseen : (i : NumberedInstance S) (g : Filter) (m : Real.Msg R) → Unseen (on_move S i g m).sends
   move_unseen i g (M_enable n k) = (refl, tt)
   move_unseen i g (M_stream n) = pieces_unseen n (marks (length (S.B.select (S.takes g) i.live)) (S.newest (S.B.select (S.takes g) i.live))
       (chop (length (S.B.select (S.takes g) i.live)) (S.B.select (S.takes g) i.live)))
   move_unseen i g (M_delete n us) = (refl, tt)
-  move_unseen i g (M_put n p first) = put_unseen n p first (S.refuse i.room i.live p) i.live p.last refl
+  move_unseen i g (M_put n p first) = each_made _ to_ctrl (λ _ k. k) _
+      (put_answers S.F S.B (λ m. old_seen S A z (Mv everything m) ≡ None) n first (S.refuse i.room i.live p) p i.live refl (λ _. refl))
   move_unseen i g (M_restore n cs) = (refl, tt)
   move_unseen i g m = tt
 

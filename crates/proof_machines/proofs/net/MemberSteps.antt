@@ -84,9 +84,8 @@ module _ {R : Type 0} (S : Sys R) (A : Sharing S) (laws : IsSys S) (z : SeeingSh
   chunk_seen : (y p : ℕ) (t : S.B.T)
       → record_at z.unit ((S.packet_unit p, S.F.step (S.B.at (S.packet_unit p) t) p) ∷ []) ≡ chunk_of f p (stepped f y (S.B.at z.unit t) p)
   chunk_seen y p t =
-      record_first z.unit ((S.packet_unit p, S.F.step (S.B.at (S.packet_unit p) t) p) ∷ [])
-      ∙ ap (λ b. first (if b then S.F.step (S.B.at (S.packet_unit p) t) p ∷ [] else [])) (same_unit_equiv.symm z.unit (S.packet_unit p))
-      ∙ split (mine S A z p) (λ b. first (if b then S.F.step (S.B.at (S.packet_unit p) t) p ∷ [] else [])
+      ap (λ b. if b then Some (S.F.step (S.B.at (S.packet_unit p) t) p) else None) (same_unit_equiv.symm z.unit (S.packet_unit p))
+      ∙ split (mine S A z p) (λ b. (if b then Some (S.F.step (S.B.at (S.packet_unit p) t) p) else None)
       ≡ (if b then share.runs S.F (S.B.at z.unit t) (share.at_node y (if b then p ∷ [] else [])) else None))
       (λ on. ap (λ u. Some (S.F.step (S.B.at u t) p)) (same_unit-true (S.packet_unit p) z.unit on))
       (λ _. refl)

@@ -3,6 +3,8 @@
 -- on Enable, Stream and Install.
 use Rattle.std.proofs.Common.{◌≡◌, ℕ, suc, Bool, true, false, Option, Some, None, List, [], ◌∷◌, ◌++◌, length, map, drop}
 use Rattle.std.specs.Prelude.{if◌then◌else◌, ◌&&◌, ◌==◌, is_some}
+use Rattle.std.specs.List.{find, fold, list_any}
+use Rattle.proof_machines.proofs.NumberedLists.{find_number, drop_number, change_number}
 use Rattle.proof_machines.proofs.unit.Machine.{Steps, Rule, Free, Drops, Buffers, Item, Carry, Pass, Fence}
 use Rattle.proof_machines.proofs.unit.Real
 use Rattle.proof_machines.proofs.unit.Real.{Chunks, RPiece, M_enable, M_stream, M_delete, M_put, M_restore, M_enabled, M_event, M_piece, M_deleted, M_put_ok}
@@ -66,17 +68,14 @@ pub record Ruling : Type 0 where
   pub held : List ℕ
 
 abbrev pub first_rule : {R : Type 0} → Sys R → units.Unit → List Ruling → Option Ruling
-first_rule S u [] = None
-first_rule S u (r ∷ rs) = if S.takes r.filter u then Some r else first_rule S u rs
+first_rule S u rs = find (λ r. S.takes r.filter u) rs
 
 abbrev pub find_rule : ℕ → List Ruling → Option Ruling
-find_rule n [] = None
-find_rule n (r ∷ rs) = if r.num == n then Some r else find_rule n rs
+find_rule n rs = find_number (λ (r : Ruling). r.num) n rs
 
 -- each rule with the number, changed
 abbrev pub change_rules : ℕ → (Ruling → Ruling) → List Ruling → List Ruling
-change_rules n change [] = []
-change_rules n change (r ∷ rs) = (if r.num == n then change r else r) ∷ change_rules n change rs
+change_rules n change rs = change_number (λ (r : Ruling). r.num) n change rs
 
 abbrev pub has_rule : ℕ → List Ruling → Bool
 has_rule n rs = is_some (find_rule n rs)
@@ -97,8 +96,7 @@ abbrev pub hold : ℕ → ℕ → List Ruling → List Ruling
 hold n p rs = change_rules n (holding p) rs
 
 abbrev pub drop_rule : ℕ → List Ruling → List Ruling
-drop_rule n [] = []
-drop_rule n (r ∷ rs) = if r.num == n then drop_rule n rs else r ∷ drop_rule n rs
+drop_rule n rs = drop_number (λ (r : Ruling). r.num) n rs
 
 abbrev pub rule_of : Option Ruling → Rule
 rule_of None = Free
@@ -131,8 +129,7 @@ module _ {R : Type 0} (S : Sys R) where
   process t p = S.write (S.packet_unit p) (S.F.step (S.B.at (S.packet_unit p) t) p) t
 
   abbrev pub process_all : S.B.T → List ℕ → S.B.T
-  process_all t [] = t
-  process_all t (p ∷ ps) = process_all (process t p) ps
+  process_all t ps = fold process t ps
 
   abbrev pub says : NumberedInstance → List (ℕ × Msg R) → InstanceTurn
   says i xs = record { node = i; sends = xs; ran = [] }
@@ -179,16 +176,16 @@ pub record Open (R : Type 0) : Type 0 where
   pub store : List ℕ
 
 abbrev pub find_op : {R : Type 0} → List (Open R) → ℕ → Option (Open R)
-find_op [] n = None
-find_op (e ∷ es) n = if e.op.num == n then Some e else find_op es n
+find_op es n = find_number (λ (e : Open _). e.op.num) n es
+
+abbrev pub written : {R : Type 0} → RPhase R → List ℕ → Open R → Open R
+written ph f e = record e { phase = ph; store = f }
 
 abbrev pub set_op : {R : Type 0} → ℕ → RPhase R → List ℕ → List (Open R) → List (Open R)
-set_op n ph f [] = []
-set_op n ph f (e ∷ es) = if e.op.num == n then record e { phase = ph; store = f } ∷ es else e ∷ set_op n ph f es
+set_op n ph f es = change_number (λ (e : Open _). e.op.num) n (written ph f) es
 
 abbrev pub close_op : {R : Type 0} → ℕ → List (Open R) → List (Open R)
-close_op n [] = []
-close_op n (e ∷ es) = if e.op.num == n then close_op n es else e ∷ close_op n es
+close_op n es = drop_number (λ (e : Open _). e.op.num) n es
 
 abbrev pub write_op : {R : Type 0} → ℕ → RPhase R → List ℕ → List (Open R) → List (Open R)
 write_op n (Over why) f es = close_op n es
@@ -227,8 +224,7 @@ filter_for g (M_install n from to) = g
 filter_for g m = everything
 
 abbrev pub wrap : {R : Type 0} → Filter → List (ℕ × Real.Msg R) → List (ℕ × Msg R)
-wrap g [] = []
-wrap g (x ∷ xs) = (x.0, Mv (filter_for g x.1) x.1) ∷ wrap g xs
+wrap g xs = map (λ x. (x.0, Mv (filter_for g x.1) x.1)) xs
 
 pub record ControllerMove (R : Type 0) : Type 0 where
   pub ops : List (Open R)
@@ -248,8 +244,7 @@ ctrl_step es port m = record { ops = es; sends = [] }
 
 -- a move may begin: two instances, and a filter that meets no open one
 abbrev pub meets_any : {R : Type 0} → Sys R → Filter → List (Open R) → Bool
-meets_any S g [] = false
-meets_any S g (e ∷ es) = if S.meets g e.filter then true else meets_any S g es
+meets_any S g es = list_any (λ e. S.meets g e.filter) es
 
 abbrev pub new_op : {R : Type 0} → ℕ → MoveAsked → Open R
 new_op n x = record { op = record { num = n; src = x.src; dst = x.dst; keep = x.keep }; filter = x.filter; phase = Freezing; store = [] }
@@ -284,8 +279,7 @@ abbrev pub links_after : {M : Type 0} → (ℕ → ℕ → List M) → ℕ → �
 links_after l p k sends i j = behind ((i == p) && (j == k)) (l i j) ++ (if i == k then sent_for j sends else [])
 
 abbrev pub at_node : ℕ → List ℕ → List (ℕ × ℕ)
-at_node y [] = []
-at_node y (p ∷ ps) = (p, y) ∷ at_node y ps
+at_node y ps = map (λ p. (p, y)) ps
 
 abbrev pub put : {X : Type 0} → (ℕ → X) → ℕ → X → ℕ → X
 put g j x k = if k == j then x else g k

@@ -1,4 +1,5 @@
 -- What holds of each message of a share on the links, after a step and where something is put on them.
+use Rattle.proof_machines.proofs.unit.Labels.{each-append}
 use Rattle.proof_machines.proofs.net.Words.{◌≡◌, ℕ, false, List, [], ◌∷◌, ◌++◌, subst, if◌then◌else◌, ◌&&◌, ◌==◌, sent_for, Each, Msg, links_after, EachSent}
 use Rattle.proof_machines.proofs.net.Words.{each_after, each_put, Any, Old, New, ShareMsg, EachNew, as_old}
 
@@ -31,14 +32,6 @@ each_new_both P Q T f [] p q = tt
 each_new_both P Q T f (Old m ∷ ms) p q = each_new_both P Q T f ms p q
 each_new_both P Q T f (New m ∷ ms) p q = (f m p.0 q.0, each_new_both P Q T f ms p.1 q.1)
 
-pub each_sent_append : {M : Type 0} (P : ℕ → M → Type 0) (xs ys : List (ℕ × M)) → EachSent P xs → EachSent P ys → EachSent P (xs ++ ys)
-each_sent_append P [] ys a b = b
-each_sent_append P (x ∷ xs) ys a b = (a.0, each_sent_append P xs ys a.1 b)
-
-pub each_sent_map : {M : Type 0} (P Q : ℕ → M → Type 0) → ((j : ℕ) (m : M) → P j m → Q j m) → (xs : List (ℕ × M)) → EachSent P xs → EachSent Q xs
-each_sent_map P Q f [] h = tt
-each_sent_map P Q f (x ∷ xs) h = (f x.0 x.1 h.0, each_sent_map P Q f xs h.1)
-
 -- messages of moves are none of a share
 pub sent_old : {R : Type 0} (P : ℕ → ShareMsg R → Type 0) (xs : List (ℕ × Msg R)) → EachSentNew P (as_old xs)
 sent_old P [] = tt
@@ -46,7 +39,7 @@ sent_old P (x ∷ xs) = (tt, sent_old P xs)
 
 pub sent_old_and : {R : Type 0} (P : ℕ → ShareMsg R → Type 0) (xs : List (ℕ × Msg R)) (ys : List (ℕ × Any R)) → EachSentNew P ys
     → EachSentNew P (as_old xs ++ ys)
-sent_old_and P xs ys h = each_sent_append (λ j m. OnNew (P j) m) (as_old xs) ys (sent_old P xs) h
+sent_old_and P xs ys h = each-append _ (as_old xs) ys (sent_old P xs) h
 
 module _ {R : Type 0} (P : ℕ → ShareMsg R → Type 0) (l : ℕ → ℕ → List (Any R)) (h : (i j : ℕ) → (i == 0) && (j == 0) ≡ false → EachNew (P j) (l i j)) where
   pub new_after : (p y : ℕ) (sends : List (ℕ × Any R)) → EachSentNew P sends → (i j : ℕ) → (i == 0) && (j == 0) ≡ false

@@ -4,7 +4,7 @@ use Rattle.proof_machines.proofs.net.Words.{◌≡◌, ◌≢◌, ℕ, ◌≤◌
 use Rattle.proof_machines.proofs.net.Words.{arith, if◌then◌else◌, ◌&&◌, ◌==◌, nat_tests, Decides-eqb, Item, State, ControllerTurn, goes, from_source}
 use Rattle.proof_machines.proofs.net.Words.{from_destination, Take_ac, Take_bc, moved, put_ctrl, add, sent_for, expect, after_take, ctrl_from_a, ctrl_from_b}
 use Rattle.proof_machines.proofs.net.Words.{nothing_seen, ShownBy, By_sa, By_sb, By_sc, By_ca, By_cb, By_ac, By_bc, By_cc, By_cs, shown_by, Each, UnitSeat}
-use Rattle.proof_machines.proofs.net.Words.{seat_shape, seat_all, seat_loose, items, ctrl_next, Msg, Sys, IsSys, Open, find_op, ControllerMove, ctrl_step}
+use Rattle.proof_machines.proofs.net.Words.{seat_shape, seat_all, seat_loose, filter_map, ctrl_next, Msg, Sys, IsSys, Open, find_op, ControllerMove, ctrl_step}
 use Rattle.proof_machines.proofs.net.Words.{World, links_after, seen, Seeing, sides_of, EachSent, frame, Label, shows, node_at, Holds, IsController, sent, head}
 use Rattle.proof_machines.proofs.net.Words.{view_some, view_none, view_put, each_after, each_put, either_way}
 use Rattle.proof_machines.proofs.unit.ToRemove.{third_silent}
@@ -23,7 +23,7 @@ two_not_1 y a two e z = let never : ⊥ = grind (arith, nat_tests, two, e, z) in
 
 module _ {R : Type 0} (S : Sys R) (laws : IsSys S) (z : Seeing) where
   abbrev its : List (Msg R) → List (Item R)
-  its ms = items (seen (frame S z)) ms
+  its ms = filter_map (seen (frame S z)) ms
 
   -- something is put on a node's links, and nothing of it is seen
   pub put_unseen : (w : World S) (x : State R) → Holds S z w x → (y : ℕ) (sends : List (ℕ × Msg R)) → ((j : ℕ) → sent S z y sends j ≡ [])

@@ -1,7 +1,7 @@
 -- A unit's own share takes what it is told: the unit sees what the share's machine does (`fenced_sees` to `packet_sees`).
 use Rattle.proof_machines.proofs.net.Words.{◌≡◌, ℕ, ◌≤◌, Bool, true, false, Option, Some, List, [], ◌∷◌, ◌++◌, map, refl, sym, ap, ◌∙◌, subst, append-nil}
 use Rattle.proof_machines.proofs.net.Words.{arith, if◌then◌else◌, ◌==◌, nat_tests, Decides-eqb, nat_eq_equiv, record_at, where_true, add, sent_for}
-use Rattle.proof_machines.proofs.net.Words.{items-append, sent_for-append, Forward, Get, Sync, Diverted, Fenced, Chunk, Synced, Stray, UnitShare, SharePhase}
+use Rattle.proof_machines.proofs.net.Words.{filter_map-append, sent_for-append, Forward, Get, Sync, Diverted, Fenced, Chunk, Synced, Stray, UnitShare, SharePhase}
 use Rattle.proof_machines.proofs.net.Words.{Idle, Out, has, without_number, only, nowhere, waits, sync_to, serves, said_to, share_does, distinct, IsShare}
 use Rattle.proof_machines.proofs.net.Words.{self, has-without, apart_of, Sys, mine, unit_share, fit, share_seen, share_items, as_share, Any, New, S_forward}
 use Rattle.proof_machines.proofs.net.Words.{S_get, S_sync, same, Sharing, OpenShare, Told, Is_fenced, Has_chunks, Has_chunk, Is_synced, Has_packet, ShareTurn}
@@ -133,7 +133,7 @@ module _ {R : Type 0} (S : Sys R) (A : Sharing S) (z : SeeingShare) (is : IsShar
 
     behind : (k : ℕ) (xs ys : List (ℕ × Any R))
         → share_items S A z k (sent_for k (xs ++ ys)) ≡ share_items S A z k (sent_for k xs) ++ share_items S A z k (sent_for k ys)
-    behind k xs ys = ap (share_items S A z k) (sent_for-append k xs ys) ∙ items-append (share_seen S A z k) (sent_for k xs) (sent_for k ys)
+    behind k xs ys = ap (share_items S A z k) (sent_for-append k xs ys) ∙ filter_map-append (share_seen S A z k) (sent_for k xs) (sent_for k ys)
 
     served : (r : ShareTurn R) (d : ControllerTurn R) → SeesRow r d → SeesRow (s_serves S A e r) (serves f d)
     served r d h =

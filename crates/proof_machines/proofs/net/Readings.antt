@@ -1,30 +1,19 @@
 -- What is read off where a unit is: its done packets and those that wait are all that arrived, in order unless a move without a buffer
 -- took the unit; and its record is the fold of what was done, at one place.
-use Rattle.proof_machines.proofs.net.Words.{◌≡◌, ℕ, Bool, true, false, Option, Some, None, List, [], ◌∷◌, ◌++◌, refl, sym, ap, ◌∙◌, subst, append-nil, Ran}
-use Rattle.proof_machines.proofs.net.Words.{Steps, after, State, firsts, firsts-append, nil_left, times, Same, Kept, lives, on_way, UnitSeat, Covered}
-use Rattle.proof_machines.proofs.net.Words.{Is_beside, Is_away, seat_shape, seat_all, seat_path, exactly, Sys, IsSys, World, Seeing, node_at, Holds, Global}
-use Rattle.proof_machines.proofs.net.Words.{done_u, Unit, same_of}
-use Rattle.proof_machines.proofs.unit.Machine.{runs}
+use Rattle.proof_machines.proofs.net.Words.{◌≡◌, ℕ, Bool, true, false, None, List, [], ◌++◌, refl, sym, ap, ◌∙◌, subst, append-nil, Ran, Steps, after, State}
+use Rattle.proof_machines.proofs.net.Words.{firsts, map-append, nil_left, times, Same, Kept, lives, on_way, UnitSeat, Covered, Is_beside, Is_away, seat_shape}
+use Rattle.proof_machines.proofs.net.Words.{seat_all, seat_path, exactly, Sys, IsSys, World, Seeing, node_at, Holds, Global, done_u, Unit, same_of}
+pub use Rattle.proof_machines.proofs.unit.Machine.{fold}
 use Rattle.proof_machines.proofs.unit.Stages.{shape, path}
 use Rattle.proof_machines.proofs.unit.SeatLaws.{seat_kept}
-use Rattle.proof_machines.proofs.net.RestingSeats.{same_done}
 use Rattle.proof_machines.proofs.net.Units.{Where, Where.At_rest, Where.In_move, shown, see}
-
--- the fold over packets
-abbrev pub fold : {R : Type 0} → Steps R → Option R → List ℕ → Option R
-fold F o [] = o
-fold F o (p ∷ ps) = fold F (Some (F.step o p)) ps
-
-pub fold_runs : {R : Type 0} (F : Steps R) (o : Option R) (d : List Ran) → runs F o d ≡ fold F o (firsts d)
-fold_runs F o [] = refl
-fold_runs F o (x ∷ d) = fold_runs F (Some (F.step o x.0)) d
 
 pub not_both : (b c : Bool) → (b ≡ true → c ≡ true) → c ≡ false → b ≡ false
 not_both true c f e = let never : true ≡ false = sym (f refl) ∙ e in cc
 not_both false c f e = refl
 
 firsts_bare : (d e : List Ran) (p : List ℕ) → firsts e ++ p ≡ [] → firsts (d ++ e) ≡ firsts d
-firsts_bare d e p none = firsts-append d e ∙ ap (λ v. firsts d ++ v) (nil_left (firsts e) p none) ∙ append-nil (firsts d)
+firsts_bare d e p none = map-append _ d e ∙ ap (λ v. firsts d ++ v) (nil_left (firsts e) p none) ∙ append-nil (firsts d)
 
 pub seat_parts : {R : Type 0} (F : Steps R) (s : UnitSeat F) → seat_all s ≡ firsts (seat_shape F s).done ++ seat_path s
 seat_parts F (Covered s) = refl
@@ -45,7 +34,7 @@ module _ {R : Type 0} (S : Sys R) (laws : IsSys S) (u : Unit) where
     same = λ p. ap (λ v. times p (v ++ l)) e ∙ same_of b (firsts d ++ l) ps o p;
   }
   order_of w ps c (In_move op third x s b there h o f k) =
-      let e : done_u S u w.done ++ seat_path s ≡ seat_all s = ap (λ v. v ++ seat_path s) (same_done S (see S laws u op third) w.done ∙ h.done)
+      let e : done_u S u w.done ++ seat_path s ≡ seat_all s = ap (λ v. v ++ seat_path s) h.done
       ∙ sym (seat_parts S.F s) in
       record {
         waits = seat_path s;
@@ -66,8 +55,7 @@ module _ {R : Type 0} (S : Sys R) (laws : IsSys S) (u : Unit) where
       let k = shown S laws u w ps c g h in
       let z = see S laws u k.op k.third in
       let x = seat_shape S.F k.seat in
-      let same : after S.F x.done ≡ fold S.F None (done_u S u w.done) = fold_runs S.F None x.done
-      ∙ ap (λ v. fold S.F None v) (sym (same_done S z w.done ∙ k.holds.done)) in
+      let same : after S.F x.done ≡ fold S.F None (done_u S u w.done) = ap (fold S.F None) (sym k.holds.done) in
       record {
         seeing = z;
         state = x;

@@ -1,18 +1,19 @@
 -- A unit at rest, said without any move: a world with it shows a seat at rest, and a seat at rest whose move isn't open is a unit at
 -- rest.
-use Rattle.std.proofs.Common.{◌≡◌, ℕ, ◌≤◌, ◌<◌, Bool, false, Option, Some, None, List, [], ◌∷◌, arith}
+use Rattle.std.proofs.Common.{◌≡◌, ℕ, ◌≤◌, ◌<◌, Bool, false, Option, Some, None, List, [], map, filter, filter_map, arith}
 use Rattle.std.specs.Prelude.{if◌then◌else◌, ◌&&◌, ◌==◌}
 use Rattle.std.proofs.lemmas.Bool.Decides.{nat_tests}
 use Rattle.proof_machines.proofs.unit.Machine.{Ran, after}
 use Rattle.proof_machines.proofs.unit.Lists.{firsts}
 use Rattle.proof_machines.proofs.unit.Real
-use Rattle.proof_machines.proofs.unit.Real.{record_at, M_enable, M_stream, M_delete, M_put, M_restore, M_event, M_piece, M_put_no, M_forward, M_install}
+use Rattle.proof_machines.proofs.unit.Real.{where_true, record_at, M_enable, M_stream, M_delete, M_put, M_restore, M_event, M_piece, M_put_no, M_forward}
+use Rattle.proof_machines.proofs.unit.Real.{M_install}
 use Rattle.proof_machines.proofs.unit.Seen.{NodesDiffer}
-use Rattle.proof_machines.proofs.unit.Labels.{Each, Without, Clean, Foreign}
+use Rattle.proof_machines.proofs.unit.Labels.{Each, Clean, Foreign}
 use Rattle.flow_filter.specs.declared.filter.Filter.{Filter}
 use Rattle.proof_machines.proofs.net.Net.{Msg, Carry_on, Pass_on, Fence_on, Mv, Sys, Ruling, is_free, Open, num_of, World}
 use Rattle.nf_function.specs.declared.unit.Unit as units
-use Rattle.record_table.specs.Table.{same_unit, is_among}
+use Rattle.record_table.specs.Table.{same_unit}
 
 -- numbers below a bound
 abbrev pub IsBelow : ℕ → Option ℕ → Type 0
@@ -49,8 +50,7 @@ module _ {R : Type 0} (S : Sys R) (u : units.Unit) where
   NothingOf i m = Prim.Unit {0}
 
   abbrev pub none_mine : List ℕ → List ℕ
-  none_mine [] = []
-  none_mine (p ∷ ps) = if mine p then p ∷ none_mine ps else none_mine ps
+  none_mine ps = filter mine ps
 
   abbrev pub RestRule : Ruling → Type 0
   RestRule r = (S.takes r.filter u ≡ false) × (none_mine r.held ≡ []) × (is_free r.rule ≡ false)
@@ -58,14 +58,15 @@ module _ {R : Type 0} (S : Sys R) (u : units.Unit) where
   abbrev pub RestOp : Open R → Type 0
   RestOp e = (S.takes e.filter u ≡ false) × (Clean u e.phase × (none_mine e.store ≡ [])) × NodesDiffer e.op
 
+  abbrev carried : Msg R → Option ℕ
+  carried (Carry_on p) = where_true (mine p) p
+  carried m = None
+
   abbrev pub carries_of : List (Msg R) → List ℕ
-  carries_of [] = []
-  carries_of (Carry_on p ∷ ms) = if mine p then p ∷ carries_of ms else carries_of ms
-  carries_of (m ∷ ms) = carries_of ms
+  carries_of ms = filter_map carried ms
 
   abbrev pub done_u : List (ℕ × ℕ) → List ℕ
-  done_u [] = []
-  done_u (d ∷ ds) = if same_unit (S.packet_unit d.0) u then d.0 ∷ done_u ds else done_u ds
+  done_u ds = filter mine (map (λ d. d.0) ds)
 
   pub record Rest (w : World S) (owner : ℕ) (d : List Ran) (l : List ℕ) : Type 0 where
     pub two : 2 ≤ owner

@@ -1,12 +1,16 @@
 -- A world with a unit at rest shows a seat at rest, and a seat at rest whose move isn't open is a unit at rest.
+use Rattle.proof_machines.proofs.Tests.{by_if}
+use Rattle.proof_machines.proofs.unit.Real.{sent_either}
+use Rattle.proof_machines.proofs.NumberedLists.{none_below}
+use Rattle.proof_machines.proofs.EachLaws.{each_both}
 use Rattle.proof_machines.proofs.net.Words.{◌≡◌, ℕ, ◌≤◌, ◌<◌, Bool, true, false, Option, Some, None, List, [], ◌∷◌, map, refl, sym, ap, ◌∙◌, subst, unwrap_or}
 use Rattle.proof_machines.proofs.net.Words.{arith, if◌then◌else◌, ◌&&◌, ◌==◌, nat_tests, Where, At_a, At_b, At_c, Ran, after, Free, idle, Item, Over, firsts}
 use Rattle.proof_machines.proofs.net.Words.{M_enable, M_stream, M_delete, M_put, M_restore, M_event, M_piece, M_put_no, M_forward, M_install, M_fence_to}
-use Rattle.proof_machines.proofs.net.Words.{where_true, add, only_mine, off_if, none_if, NodesDiffer, Each, each_both, Nodes, expect, rest_at, items, Filter}
-use Rattle.proof_machines.proofs.net.Words.{Msg, In_packet, Asked, Carry_on, Pass_on, Fence_on, Mv, Sys, Ruling, find_rule, rule_of, is_free, held_of, Open}
-use Rattle.proof_machines.proofs.net.Words.{find_op, num_of, World, seen, Seeing, frame, MoveLabel, Label, RuleLabel, OpLabel, SeesNode, shows, node_at, place}
-use Rattle.proof_machines.proofs.net.Words.{IsController, done_of, Holds, same_unit, IsBelow, Below, below_off, Global, HasNothing, NothingOf, none_mine}
-use Rattle.proof_machines.proofs.net.Words.{RestRule, RestOp, carries_of, done_u, Rest, split, Unit}
+use Rattle.proof_machines.proofs.net.Words.{where_true, add, only_mine, off_if, none_if, NodesDiffer, Each, each_both, Nodes, expect, rest_at, filter_map}
+use Rattle.proof_machines.proofs.net.Words.{Filter, Msg, In_packet, Asked, Carry_on, Pass_on, Fence_on, Mv, Sys, Ruling, find_rule, rule_of, is_free, held_of}
+use Rattle.proof_machines.proofs.net.Words.{Open, find_op, num_of, World, seen, Seeing, frame, MoveLabel, Label, RuleLabel, OpLabel, SeesNode, shows, node_at}
+use Rattle.proof_machines.proofs.net.Words.{place, IsController, Holds, same_unit, IsBelow, Below, below_off, Global, HasNothing, NothingOf}
+use Rattle.proof_machines.proofs.net.Words.{RestRule, RestOp, carries_of, Rest, split, Unit}
 use Rattle.proof_machines.proofs.unit.Machine.{Carry, Stray, Phase, Idle}
 use Rattle.proof_machines.proofs.unit.Real
 
@@ -18,15 +22,7 @@ module _ {R : Type 0} (S : Sys R) (z : Seeing) where
   n = z.op.num
 
   abbrev its : List (Msg R) → List (Item R)
-  its ms = items (seen (frame S z)) ms
-
-  pub same_mine : (ps : List ℕ) → none_mine S u ps ≡ only_mine (frame S z) ps
-  same_mine [] = refl
-  same_mine (p ∷ ps) = ap (λ v. if same_unit (S.packet_unit p) u then p ∷ v else v) (same_mine ps)
-
-  pub same_done : (ds : List (ℕ × ℕ)) → done_u S u ds ≡ done_of S z ds
-  same_done [] = refl
-  same_done (d ∷ ds) = ap (λ v. if same_unit (S.packet_unit d.0) u then d.0 ∷ v else v) (same_done ds)
+  its ms = filter_map (seen (frame S z)) ms
 
   -- From rest to a seat: the number n is on nothing.
   module _ (b : ℕ) (new : b ≤ n) where
@@ -59,7 +55,7 @@ module _ {R : Type 0} (S : Sys R) (z : Seeing) where
     view_rest : (i : ℕ) (ms : List (Msg R)) → Each (Below b) ms → Each (NothingOf S u i) ms → its ms ≡ map Carry (carries_of S u ms)
     view_rest i [] e h = refl
     view_rest i (Carry_on p ∷ ms) e h = elim (same_unit (S.packet_unit p) u)
-        as (λ t. add (where_true t (Carry p)) (its ms) ≡ map Carry (if t then p ∷ carries_of S u ms else carries_of S u ms))
+        as (λ t. add (where_true t (Carry p)) (its ms) ≡ map Carry (add (where_true t p) (carries_of S u ms)))
         [ true ↦ ap (λ v. Carry p ∷ v) (view_rest i ms e.1 h.1) | false ↦ view_rest i ms e.1 h.1 ]
     view_rest i (Pass_on p ∷ ms) e h = let o = h.0 in rw o (view_rest i ms e.1 h.1)
     view_rest i (Fence_on k ∷ ms) e h = let o = off k e.0 in rw o (view_rest i ms e.1 h.1)
@@ -67,21 +63,11 @@ module _ {R : Type 0} (S : Sys R) (z : Seeing) where
     view_rest i (In_packet p ∷ ms) e h = view_rest i ms e.1 h.1
     view_rest i (Asked a ∷ ms) e h = view_rest i ms e.1 h.1
 
-    pub no_rule : (rs : List Ruling) → Each (λ r. r.num < b) rs → find_rule n rs ≡ None
-    no_rule [] e = refl
-    no_rule (r ∷ rs) e = let o = off r.num e.0 in rw o (no_rule rs e.1)
-
-    pub no_op : (es : List (Open R)) → Each (λ e. e.op.num < b) es → find_op es n ≡ None
-    no_op [] e = refl
-    no_op (x ∷ es) e = let o = off x.op.num e.0 in rw o (no_op es e.1)
-
     pub rule_labels : (rs : List Ruling) → Each (λ r. r.num < b) rs → Each (RestRule S u) rs → Each (RuleLabel S z) rs
-    rule_labels [] e h = tt
-    rule_labels (r ∷ rs) e h = ((h.0.0 ∙ sym (off r.num e.0), (λ _. sym (same_mine r.held) ∙ h.0.1), h.0.2), rule_labels rs e.1 h.1)
+    rule_labels rs e h = each_both (λ r few rests. (rests.0 ∙ sym (off r.num few), (λ _. rests.1), rests.2)) rs e h
 
     pub op_labels : (es : List (Open R)) → Each (λ e. e.op.num < b) es → Each (RestOp S u) es → Each (OpLabel S z) es
-    op_labels [] e h = tt
-    op_labels (x ∷ es) e h = ((h.0.0 ∙ sym (off x.op.num e.0), (λ _. (h.0.1.0, sym (same_mine x.store) ∙ h.0.1.1)), h.0.2), op_labels es e.1 h.1)
+    op_labels es e h = each_both (λ x few rests. (rests.0 ∙ sym (off x.op.num few), (λ _. rests.1), rests.2)) es e h
 
     rest_links : (side : Where) (d : List Ran) (l : List ℕ) (keep : Bool) (i j : ℕ) (m : List (Item R)) → Nodes z.op.src z.op.dst z.third → map Carry l ≡ m
         → (if (i == 0) && (j == 0) then [] else (if (i == 0) && (j == place S z side) then m else []))
@@ -138,7 +124,7 @@ module _ {R : Type 0} (S : Sys R) (z : Seeing) where
     views = λ i j. by_input i j ∙ rest_links w.next new side d l keep i j (map Carry l) nodes refl;
     labels = λ i j e. each_both (λ m a c. to_label w.next new i m a c) (w.link i j) (g.messages i j e) (h.labels i j e);
     insts = λ k.
-        let none = no_rule w.next new (w.inst k).rules (g.rules k) in
+        let none : find_rule n (w.inst k).rules ≡ None = none_below _ w.next n (w.inst k).rules new (g.rules k) in
         subst (λ v. SeesNode S z (w.inst k) v) (sym (node_rest side d l (Over Idle) keep k nodes)) (record {
           live = h.live k;
           rule = ap rule_of none;
@@ -146,10 +132,10 @@ module _ {R : Type 0} (S : Sys R) (z : Seeing) where
           rules = rule_labels w.next new (w.inst k).rules (g.rules k) (h.rules k);
         });
     target = h.target ∙ ap (place S z) (sym (target_rest side d l (Over Idle) keep));
-    ctrl = subst (λ o. IsController S z o (rest_at S.F side d l (Over Idle) keep)) (sym (no_op w.next new w.ops g.ops))
+    ctrl = subst (λ o. IsController S z o (rest_at S.F side d l (Over Idle) keep)) (sym (none_below _ w.next n w.ops new g.ops))
         (let e = idle_phase side d l keep in rw e refl);
     ops = op_labels w.next new w.ops g.ops h.ops;
-    done = sym (same_done w.done) ∙ h.done ∙ ap firsts (sym (done_rest side d l (Over Idle) keep));
+    done = h.done ∙ ap firsts (sym (done_rest side d l (Over Idle) keep));
   }
     where
       by_input : (i j : ℕ) → shows S z w.link i j ≡ (if (i == 0) && (j == 0) then [] else (if (i == 0) && (j == place S z side) then map Carry l else []))
@@ -172,19 +158,13 @@ module _ {R : Type 0} (S : Sys R) (z : Seeing) where
   no_if true it e = e
   no_if false it e = refl
 
-  no_side : (a b : Bool) (f : Where → Item R) → ((v : Where) → no_carry (Some (f v)) ≡ true)
-      → no_carry (Some (if a then f At_a else if b then f At_b else Stray)) ≡ true
-  no_side true b f e = e At_a
-  no_side false true f e = e At_b
-  no_side false false f e = refl
-
   mv_no_carry : (m : Real.Msg R) → no_carry (Real.seen (frame S z) m) ≡ true
   mv_no_carry (M_forward p to) = no_if (same_unit (S.packet_unit p) u) _
-      (no_side (to == z.op.src) (to == z.op.dst) (λ v. Rattle.proof_machines.proofs.unit.Machine.Forward v p) (λ v. refl))
-  mv_no_carry (M_fence_to k to) =
-      no_if (k == n) _ (no_side (to == z.op.src) (to == z.op.dst) (λ v. Rattle.proof_machines.proofs.unit.Machine.Fence_to v) (λ v. refl))
-  mv_no_carry (M_install k from to) = no_if (k == n) _ (elim ((from == z.op.src) && (to == z.op.dst))
-      as (λ t. no_carry (Some (if t then Rattle.proof_machines.proofs.unit.Machine.Install else Stray)) ≡ true) [ true ↦ refl | false ↦ refl ])
+      (sent_either (λ it. no_carry (Some it) ≡ true) (frame S z) to (λ v. Rattle.proof_machines.proofs.unit.Machine.Forward v p) (λ v. refl) refl)
+  mv_no_carry (M_fence_to k to) = no_if (k == n) _
+      (sent_either (λ it. no_carry (Some it) ≡ true) (frame S z) to (λ v. Rattle.proof_machines.proofs.unit.Machine.Fence_to v) (λ v. refl) refl)
+  mv_no_carry (M_install k from to) = no_if (k == n) _
+      (by_if (λ it. no_carry (Some it) ≡ true) ((from == z.op.src) && (to == z.op.dst)) refl refl)
   mv_no_carry m = no_if _ _ refl
 
   pub mv_nothing : (g : Filter) (m : Real.Msg R) → Real.seen (frame S z) m ≡ None → MoveLabel S z g m → HasNothing S u g m
@@ -205,7 +185,7 @@ module _ {R : Type 0} (S : Sys R) (z : Seeing) where
   link_rest i [] (p ∷ l) e h = cc
   link_rest i (Carry_on p ∷ ms) l e h =
       split (same_unit (S.packet_unit p) u)
-      (λ t. add (where_true t (Carry p)) (its ms) ≡ map Carry l → ((if t then p ∷ carries_of S u ms else carries_of S u ms) ≡ l) × Each (NothingOf S u i)
+      (λ t. add (where_true t (Carry p)) (its ms) ≡ map Carry l → (add (where_true t p) (carries_of S u ms) ≡ l) × Each (NothingOf S u i)
       (Carry_on p ∷ ms))
       (λ _. λ g. by_list l g (λ k t. link_rest i ms k t h.1)) (λ _. λ g. let r = link_rest i ms l g h.1 in (r.0, (tt, r.1))) e
     where
@@ -232,12 +212,12 @@ module _ {R : Type 0} (S : Sys R) (z : Seeing) where
   rules_rest (r ∷ rs) e h =
       split (r.num == n) (λ t. rule_of (if t then Some r else find_rule n rs) ≡ Free → Each (RestRule S u) (r ∷ rs))
       (λ _ free. let never : true ≡ false = ap is_free (sym free) ∙ h.0.2 in cc)
-      (λ o free. ((h.0.0 ∙ o, same_mine r.held ∙ h.0.1 o, h.0.2), rules_rest rs free h.1)) e
+      (λ o free. ((h.0.0 ∙ o, h.0.1 o, h.0.2), rules_rest rs free h.1)) e
 
   pub ops_rest : (es : List (Open R)) → find_op es n ≡ None → Each (OpLabel S z) es → Each (RestOp S u) es
   ops_rest [] e h = tt
   ops_rest (x ∷ es) e h = split (x.op.num == n) (λ t. (if t then Some x else find_op es n) ≡ None → Each (RestOp S u) (x ∷ es)) (λ _ bad. cc)
-      (λ o none. ((h.0.0 ∙ o, ((h.0.1 o).0, same_mine x.store ∙ (h.0.1 o).1), h.0.2), ops_rest es none h.1)) e
+      (λ o none. ((h.0.0 ∙ o, ((h.0.1 o).0, (h.0.1 o).1), h.0.2), ops_rest es none h.1)) e
 
   end_links : (side : Where) (d : List Ran) (l : List ℕ) (ph : Phase R) (keep : Bool) (i j : ℕ) → Nodes z.op.src z.op.dst z.third
       → expect z.op.src z.op.dst z.third (rest_at S.F side d l ph keep) i j ≡ (if (i == 0) && (j == place S z side) then map Carry l else [])
@@ -263,7 +243,7 @@ module _ {R : Type 0} (S : Sys R) (z : Seeing) where
     rules = λ k. rules_rest (w.inst k).rules ((h.insts k).rule ∙ ap (λ x. x.rule) (node_rest side d l ph keep k h.nodes)) (h.insts k).rules;
     target = h.target ∙ ap (place S z) (target_rest side d l ph keep);
     ops = ops_rest w.ops none h.ops;
-    done = same_done w.done ∙ h.done ∙ ap firsts (done_rest side d l ph keep);
+    done = h.done ∙ ap firsts (done_rest side d l ph keep);
   }
     where
       at : (i j : ℕ) → (i == 0) && (j == 0) ≡ false

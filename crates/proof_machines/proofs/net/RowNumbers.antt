@@ -1,10 +1,11 @@
 -- What a move's row sends has that move's number, and is for an instance or the switch.
+use Rattle.proof_machines.proofs.EachLaws.{each_any, each_made}
 use Rattle.proof_machines.proofs.net.Words.{◌≡◌, ℕ, true, false, Option, List, [], ◌∷◌, map, refl, if◌then◌else◌, ◌==◌, Answer, RPiece, M_enable, M_stream}
 use Rattle.proof_machines.proofs.net.Words.{M_delete, M_put, M_restore, M_forward, M_install, M_fence_to, M_event, M_put_no, RPhase, Op, OperationTurn, r_goes}
 use Rattle.proof_machines.proofs.net.Words.{r_words, put_to, forward_to, sends_of, r_from_destination, Each, each-append, row_of, is_free, by_if}
 use Rattle.move_op.specs.Table.{Said, Nothing, Hold_at_source, Put, Hold_at_destination, Forward, Release, Give_back}
 use Rattle.proof_machines.proofs.unit.Real.{Msg}
-use Rattle.proof_machines.proofs.unit.TableRows.{Hold, Any, any_each, any_phase}
+use Rattle.proof_machines.proofs.unit.TableRows.{Hold, Any, any_phase}
 use Rattle.proof_machines.proofs.unit.RealRows.{Brings, BringsBack, from_source_holds, from_destination_holds}
 
 abbrev pub OfRow : {R : Type 0} → Op → Msg R → Type 0
@@ -21,25 +22,17 @@ OfRow o m = ⊥
 abbrev pub SentOf : {R : Type 0} → Op → ℕ × Msg R → Type 0
 SentOf o x = OfRow o x.1
 
-puts_of_row : {R : Type 0} (o : Op) (ps : List (RPiece R)) → Each (SentOf o) (map (put_to o) ps)
-puts_of_row o [] = tt
-puts_of_row o (p ∷ ps) = (refl, puts_of_row o ps)
-
-forwards_of_row : (R : Type 0) (o : Op) (to : ℕ) (f : List ℕ) → Each (SentOf {R = R} o) (map (forward_to to) f)
-forwards_of_row R o to [] = tt
-forwards_of_row R o to (p ∷ f) = (tt, forwards_of_row R o to f)
-
 module _ {R : Type 0} (o : Op) where
   said_of_row : (said : Said ℕ (RPiece R)) → Each (SentOf o) (sends_of o said)
   said_of_row Nothing = tt
   said_of_row Hold_at_source = ((refl, refl), tt)
   said_of_row Hold_at_destination = ((refl, refl), tt)
-  said_of_row (Put ps) = puts_of_row o ps
+  said_of_row (Put ps) = each_made _ (put_to o) (λ p _. refl) ps (each_any ps)
   said_of_row (Forward p) = (tt, tt)
   said_of_row (Release f) =
-      each-append (SentOf {R = R} o) (map (forward_to o.dst) f) ((0, M_install o.num o.src o.dst) ∷ []) (forwards_of_row R o o.dst f) (refl, tt)
+      each-append (SentOf {R = R} o) (map (forward_to o.dst) f) ((0, M_install o.num o.src o.dst) ∷ []) (each_made _ _ (λ p _. tt) f (each_any f)) (refl, tt)
   said_of_row (Give_back f) =
-      each-append (SentOf {R = R} o) (map (forward_to o.src) f) ((0, M_fence_to o.num o.src) ∷ []) (forwards_of_row R o o.src f) (refl, tt)
+      each-append (SentOf {R = R} o) (map (forward_to o.src) f) ((0, M_fence_to o.num o.src) ∷ []) (each_made _ _ (λ p _. tt) f (each_any f)) (refl, tt)
   said_of_row said = (refl, tt)
 
   abbrev Numbered : OperationTurn R → Type 0
@@ -59,6 +52,6 @@ module _ {R : Type 0} (o : Op) where
   pub row_numbers : (phase : RPhase R) (f : List ℕ) (port : ℕ) (m : Msg R) → Each (SentOf o) (row_of o phase f port m).sends
   row_numbers phase f port m =
       by_if (λ (r : OperationTurn R). Each (SentOf o) r.sends) (port == o.src)
-      (from_source_holds (all_numbered f) (any_each f) phase (any_phase phase) m (brings m))
+      (from_source_holds (all_numbered f) (each_any f) phase (any_phase phase) m (brings m))
       (elim (port == o.dst) as (λ b. Each (SentOf o) (if b then r_from_destination o phase f m else r_goes phase f []).sends)
-      [ true ↦ from_destination_holds (all_numbered f) (any_each f) phase (any_phase phase) m (brings_back m) | false ↦ tt ])
+      [ true ↦ from_destination_holds (all_numbered f) (each_any f) phase (any_phase phase) m (brings_back m) | false ↦ tt ])

@@ -1,7 +1,7 @@
 -- What a unit under a share sees of all links after a step, against the links of its view after a move of the share's machine. And a view that
 -- agrees with one that is shown is shown.
 use Rattle.proof_machines.proofs.net.Words.{◌≡◌, ℕ, Bool, true, false, Some, None, List, [], ◌∷◌, ◌++◌, refl, sym, ap, ◌∙◌, append-nil, arith, if◌then◌else◌}
-use Rattle.proof_machines.proofs.net.Words.{◌&&◌, ◌==◌, nat_tests, add, sent_for, items-append, View, ShareMachineStep, put, joined, only, brings, Alike}
+use Rattle.proof_machines.proofs.net.Words.{◌&&◌, ◌==◌, nat_tests, add, sent_for, filter_map-append, View, ShareMachineStep, put, joined, only, brings, Alike}
 use Rattle.proof_machines.proofs.net.Words.{cond-same, Sys, behind, links_after, share_expect, unit_share, share_seen, share_items, as_share, ShareHolds, Any}
 use Rattle.proof_machines.proofs.net.Words.{Sharing, WholeWorld, ran_of, SeeingShare, same_unit, split}
 use Rattle.proof_machines.proofs.share.Share.{Item, moved}
@@ -66,7 +66,7 @@ module _ {R : Type 0} (S : Sys R) (A : Sharing S) (z : SeeingShare) where
       → share_items S A z j (links_after l p k sends i j) ≡ (if (i == p) && (j == k) then share_items S A z k rest else share_items S A z j (l i j))
       ++ (if i == k then share_items S A z j (sent_for j sends) else [])
   view_after l p k m rest sends waits i j =
-      items-append (share_seen S A z j) (behind ((i == p) && (j == k)) (l i j)) (if i == k then sent_for j sends else [])
+      filter_map-append (share_seen S A z j) (behind ((i == p) && (j == k)) (l i j)) (if i == k then sent_for j sends else [])
       ∙ ap (λ v. v ++ share_items S A z j (if i == k then sent_for j sends else [])) left
       ∙ ap (λ v. (if (i == p) && (j == k) then share_items S A z k rest else share_items S A z j (l i j)) ++ v) (seen_if (i == k) j (sent_for j sends))
     where
@@ -82,7 +82,7 @@ module _ {R : Type 0} (S : Sys R) (A : Sharing S) (z : SeeingShare) where
   -- and after something was put on a node's links
   pub view_put : (l : ℕ → ℕ → List (Any R)) (k : ℕ) (sends : List (ℕ × Any R)) (i j : ℕ) → share_items S A z j
       (l i j ++ (if i == k then sent_for j sends else [])) ≡ share_items S A z j (l i j) ++ (if i == k then share_items S A z j (sent_for j sends) else [])
-  view_put l k sends i j = items-append (share_seen S A z j) (l i j) (if i == k then sent_for j sends else [])
+  view_put l k sends i j = filter_map-append (share_seen S A z j) (l i j) (if i == k then sent_for j sends else [])
       ∙ ap (λ v. share_items S A z j (l i j) ++ v) (seen_if (i == k) j (sent_for j sends))
 
   -- one message for one receiver

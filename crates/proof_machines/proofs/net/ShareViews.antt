@@ -4,7 +4,7 @@ use Rattle.std.proofs.Common.{◌≡◌, ℕ, Bool, true, false, Option, Some, N
 use Rattle.std.specs.Prelude.{if◌then◌else◌, ◌&&◌, ◌==◌}
 use Rattle.proof_machines.proofs.unit.Real
 use Rattle.proof_machines.proofs.unit.Real.{record_at, M_fenced, M_install, M_fence_to, where_true}
-use Rattle.proof_machines.proofs.unit.NetViews.{items}
+use Rattle.std.specs.List.{filter_map}
 use Rattle.proof_machines.proofs.share.Share.{Item, Item.Carry, Item.Fence, Item.Shared, Item.Diverted, Item.Install, Item.Forward, Item.Get, Item.Sync}
 use Rattle.proof_machines.proofs.share.Share.{Item.Fenced, Item.Chunks, Item.Chunk, Item.Synced, Item.Stray, UnitShare, View, has}
 use Rattle.copy_share.specs.declared.share_phase.SharePhase.{SharePhase}
@@ -65,7 +65,7 @@ module _ {R : Type 0} (S : Sys R) (A : Sharing S) (z : SeeingShare) where
   share_seen r (New m) = new_seen r m
 
   abbrev pub share_items : ℕ → List (Any R) → List (Item R)
-  share_items r ms = items (share_seen r) ms
+  share_items r ms = filter_map (share_seen r) ms
 
   -- a member's record: live at home, standing by at the others
   abbrev pub own_of : Bool → S.B.T → S.B.T → Option R

@@ -4,7 +4,7 @@ use Rattle.proof_machines.proofs.net.Words.{◌≡◌, ◌≢◌, ℕ, Bool, tru
 use Rattle.proof_machines.proofs.net.Words.{◌==◌, ◌&&◌, Decides-eqb, At_a, Steps, Item, Fence_to, Passing, Ending, Over, State, Ended, M_install, RPhase, Op}
 use Rattle.proof_machines.proofs.net.Words.{Frame, see_phase, where_true, add, Laying, Turned, Fenced_a, Ending_b, Fence_b, Turned_loose, Fenced_loose}
 use Rattle.proof_machines.proofs.net.Words.{Ending_loose, Fence_loose, Fenced_b, Moved, Returned, to_a, Each, UnitSeat, Covered, Is_beside, Is_away, seat_shape}
-use Rattle.proof_machines.proofs.net.Words.{items, never_true, cons_nil, Filter, Msg, Mv, Sys, IsSys, Open, World, find_op, inst_step, seen, frame, Label}
+use Rattle.proof_machines.proofs.net.Words.{filter_map, never_true, cons_nil, Filter, Msg, Mv, Sys, IsSys, Open, World, find_op, inst_step, seen, frame, Label}
 use Rattle.proof_machines.proofs.net.Words.{IsController, OpLabel, Holds, RestOp, none_mine, Unit}
 use Rattle.proof_machines.proofs.unit.Machine.{Install, Stray, Phase}
 use Rattle.move_op.specs.Phases.{Freezing}
@@ -127,6 +127,6 @@ module _ {R : Type 0} (S : Sys R) (laws : IsSys S) (w : World S) (n : ℕ) (e : 
         by_test true on =
             let v : Frame = frame S (see S laws u e.op seated.third) in
             let it : Item R = if (from == v.from) && (to == v.to) then Install else Stray in
-            let view : it ∷ items (seen v) rest ≡ (shape S.F seated.stage).cs =
-            sym (ap (λ b. add (where_true b it) (items (seen v) rest)) on) ∙ ap (items (seen v)) (sym waits) ∙ seated.holds.views 1 0 in
-            never_true (sym (seated.is.cs it (items (seen v) rest) (sym view)) ∙ change_is R ((from == v.from) && (to == v.to)))
+            let view : it ∷ filter_map (seen v) rest ≡ (shape S.F seated.stage).cs =
+            sym (ap (λ b. add (where_true b it) (filter_map (seen v) rest)) on) ∙ ap (filter_map (seen v)) (sym waits) ∙ seated.holds.views 1 0 in
+            never_true (sym (seated.is.cs it (filter_map (seen v) rest) (sym view)) ∙ change_is R ((from == v.from) && (to == v.to)))

@@ -5,7 +5,6 @@ use Rattle.proof_machines.proofs.net.Words.{none_mine, Global, same_unit, same_u
 use Rattle.move_op.specs.Phases.{Ending}
 use Rattle.proof_machines.proofs.unit.Sides.{is_released, seat_stands}
 use Rattle.proof_machines.proofs.net.Ctrl.{each_found}
-use Rattle.proof_machines.proofs.net.RestingSeats.{same_mine}
 use Rattle.proof_machines.proofs.net.Units.{Where, shown, see as seeing}
 
 -- the last fence is awaited
@@ -35,7 +34,7 @@ module _ {R : Type 0} (S : Sys R) (laws : IsSys S) where
   none_left w g n e there late u ps b here =
       let k = shown S laws u w ps b g here in
       let z = seeing S laws u k.op k.third in
-      same_mine S z e.store ∙ either_way (n == k.op.num)
+      either_way (n == k.op.num)
       (λ on.
       let same : n ≡ k.op.num = (Decides-eqb n k.op.num).0 on in
       let c : IsController S z (Some e) (seat_shape S.F k.seat) = subst (λ o. IsController S z o (seat_shape S.F k.seat))

@@ -3,18 +3,19 @@ use Rattle.proof_machines.proofs.net.Words.{◌≡◌, ◌≢◌, ℕ, ◌≤◌
 use Rattle.proof_machines.proofs.net.Words.{append-nil, arith, if◌then◌else◌, ◌&&◌, ◌==◌, nat_tests, Decides-eqb, and_parts, Where, At_a, At_b, At_c, Item}
 use Rattle.proof_machines.proofs.net.Words.{Pass, Fence_to, State, moved, switch_does, redirected, send_to, M_forward, M_install, M_fence_to, where_true, add}
 use Rattle.proof_machines.proofs.net.Words.{Nodes, expect, after_take, switch_from_c, nothing_seen, arrives_at, By_sa, By_sb, By_sc, By_ca, By_cb, By_ac, By_bc}
-use Rattle.proof_machines.proofs.net.Words.{By_cc, By_cs, shown_by, Each, UnitSeat, seat_shape, seat_all, seat_loose, items, never_true, Filter, sw_next}
+use Rattle.proof_machines.proofs.net.Words.{By_cc, By_cs, shown_by, Each, UnitSeat, seat_shape, seat_all, seat_loose, filter_map, never_true, Filter, sw_next}
 use Rattle.proof_machines.proofs.net.Words.{in_next, Msg, In_packet, Asked, Carry_on, Pass_on, Fence_on, Mv, Sys, IsSys, Open, find_op, sw_target, sw_sends}
 use Rattle.proof_machines.proofs.net.Words.{World, links_after, seen, Seeing, EachSent, frame, Label, shows, node_at, place, Holds, IsController, sent, head}
 use Rattle.proof_machines.proofs.net.Words.{view_some, view_none, view_put, each_after, each_put, same_unit, same_unit-true, either_way, split}
 use Rattle.proof_machines.proofs.unit.Machine.{Carry, Fence, Forward, Install, Stray, Arrive, Take_cs}
-use Rattle.proof_machines.proofs.net.OnLinks.{for_switch, ok_head, cs_kind}
+use Rattle.proof_machines.proofs.unit.Lists.{head_passes}
+use Rattle.proof_machines.proofs.unit.Sides.{for_switch, seat_stands}
 use Rattle.proof_machines.proofs.net.InstWorld.{Goes_to, moves_on, same_order}
 use Rattle.proof_machines.proofs.net.OtherWorld.{one_unseen, put_unseen, two_not}
 
 module _ {R : Type 0} (S : Sys R) (laws : IsSys S) (z : Seeing) where
   abbrev its : List (Msg R) → List (Item R)
-  its ms = items (seen (frame S z)) ms
+  its ms = filter_map (seen (frame S z)) ms
 
   sends_label : (m : Msg R) → EachSent (λ j q. Label S z 0 q) (sw_sends m)
   sends_label (Mv g (M_forward p to)) = (tt, tt)
@@ -101,7 +102,7 @@ module _ {R : Type 0} (S : Sys R) (laws : IsSys S) (z : Seeing) where
       ]
 
       is_for : for_switch it ≡ true
-      is_for = ok_head for_switch it v x.cs (cs_kind S.F s) from_ctrl.1
+      is_for = head_passes for_switch it v x.cs from_ctrl.1 (seat_stands S.F s).known
 
       taken_cs : (u : State R) → u.cs ≡ it ∷ v → moved S.F u Take_cs ≡ switch_does (record u { cs = v }) it
       taken_cs u e = ap (λ l. elim l as (λ _. State R) [ [] ↦ u | x ∷ xs ↦ switch_does (record u { cs = xs }) x ]) e

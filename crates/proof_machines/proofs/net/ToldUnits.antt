@@ -1,6 +1,7 @@
 -- A begun move leaves its units in a move, with all their packets that arrived.
-use Rattle.proof_machines.proofs.net.Words.{◌≡◌, ◌≢◌, ℕ, suc, ◌+◌, ◌≤◌, ◌<◌, Bool, true, false, Some, List, [], ◌∷◌, ◌++◌, map, refl, sym, ap, ◌∙◌, subst}
-use Rattle.proof_machines.proofs.net.Words.{arith, if◌then◌else◌, ◌||◌, ◌==◌, nat_tests, Decides-eqb, At_a, At_b, At_c, Ran, Drops, Item, Enable, Freezing}
+use Rattle.proof_machines.proofs.unit.Path.{all_carries}
+use Rattle.proof_machines.proofs.net.Words.{◌||◌, ◌≡◌, ◌≢◌, ℕ, suc, ◌+◌, ◌≤◌, ◌<◌, Bool, true, false, Some, List, [], ◌∷◌, ◌++◌, refl, sym, ap, ◌∙◌, subst}
+use Rattle.proof_machines.proofs.net.Words.{arith, if◌then◌else◌, ◌||◌, ◌==◌, nat_tests, Decides-eqb, At_a, At_b, At_c, Ran, Drops, Enable, Freezing}
 use Rattle.proof_machines.proofs.net.Words.{Begin, moved, Over, firsts, IsOrderedAs, Op, Nodes, rest_at, seat_at, seat_begins, UnitSeat, is_covered, seat_shape}
 use Rattle.proof_machines.proofs.net.Words.{seat_all, seat_loose, Filter, begin_next, MoveAsked, Sys, IsSys, Open, find_op, meets_any, new_op, World, OpLabel}
 use Rattle.proof_machines.proofs.net.Words.{place, Rest, Global, either_way, split, false_from_ne_true, Unit, Side}
@@ -16,18 +17,13 @@ module _ {R : Type 0} (S : Sys R) (laws : IsSys S) (u : Unit) where
       → S.takes e.filter u ≡ false
   any_tells g [] n e apart there t = cc
   any_tells g (x ∷ es) n e apart there t =
-      split (S.meets g x.filter) (λ b. (if b then true else meets_any S g es) ≡ false → S.takes e.filter u ≡ false) (λ _ bad. cc)
+      split (S.meets g x.filter) (λ b. b || meets_any S g es ≡ false → S.takes e.filter u ≡ false) (λ _ bad. cc)
       (λ out more. split (x.op.num == n) (λ b. (if b then Some x else find_op es n) ≡ Some e → S.takes e.filter u ≡ false)
       (λ _. λ is. let same : x ≡ e = cc in subst (λ y. S.takes y.filter u ≡ false) same (laws.apart g x.filter u out t))
       (λ _. λ is. any_tells g es n e more is t) there) apart
 
-  carries_map : (l : List ℕ)
-      → Rattle.proof_machines.proofs.unit.Path.carries (map (λ p. let x : Item R = Rattle.proof_machines.proofs.unit.Machine.Carry p in x) l) ≡ l
-  carries_map [] = refl
-  carries_map (p ∷ l) = ap (λ v. p ∷ v) (carries_map l)
-
   all_at_rest : (side : Side) (d : List Ran) (l : List ℕ) (k : Bool) → seat_all (seat_at S.F side d l k) ≡ firsts d ++ l
-  all_at_rest At_b d l k = ap (λ v. firsts d ++ v) (carries_map l)
+  all_at_rest At_b d l k = ap (λ v. firsts d ++ v) (all_carries R l)
   all_at_rest side d l k = refl
 
   rest_store : (side : Side) (d : List Ran) (l : List ℕ) (k : Bool)

@@ -1,6 +1,6 @@
 -- The controller's step is, to a unit under a share, nothing or a move of the share's machine (`ctrl_goes`).
 use Rattle.proof_machines.proofs.net.Words.{◌≡◌, ℕ, ◌≤◌, Bool, true, false, Option, Some, None, List, [], ◌∷◌, ◌++◌, refl, sym, ap, ◌∙◌, subst, arith}
-use Rattle.proof_machines.proofs.net.Words.{if◌then◌else◌, ◌&&◌, ◌==◌, Decides-eqb, add, sent_for, items-append, sent_for-append, UnitShare, View, Take_sc}
+use Rattle.proof_machines.proofs.net.Words.{if◌then◌else◌, ◌&&◌, ◌==◌, Decides-eqb, add, sent_for, filter_map-append, sent_for-append, UnitShare, View, Take_sc}
 use Rattle.proof_machines.proofs.net.Words.{Take_back, has, joined, waits, share_does, from_sc, from_back, Stage, IsShare, FitsStage, shape, to_members, Sys}
 use Rattle.proof_machines.proofs.net.Words.{GlobalAll, share_expect, unit_share, share_seen, share_items, ShareHolds, Any, as_old, Sharing, told_by, SharesStep}
 use Rattle.proof_machines.proofs.net.Words.{by_share, WholeWorld, old_step, whole_ctrl, SeeingShare, split, false_from_ne_true}
@@ -39,7 +39,7 @@ module _ {R : Type 0} (S : Sys R) (A : Sharing S) (z : SeeingShare) where
     sent_is : (j : ℕ) → sent j ≡ share_items S A z j (sent_for j step.sends)
     sent_is j =
         ap (share_items S A z j) (sent_for-append j (as_old (old_step S A w.ops p m).sends) step.sends)
-        ∙ items-append (share_seen S A z j) (sent_for j (as_old (old_step S A w.ops p m).sends)) (sent_for j step.sends)
+        ∙ filter_map-append (share_seen S A z j) (sent_for j (as_old (old_step S A w.ops p m).sends)) (sent_for j step.sends)
         ∙ ap (λ v. v ++ share_items S A z j (sent_for j step.sends))
         (unseen_view S A z (old_step S A w.ops p m).sends (moves_unseen S A z is insts w g covered x.phase x.queue h.share p m) j)
 

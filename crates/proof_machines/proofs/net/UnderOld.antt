@@ -1,16 +1,18 @@
 -- A unit that no move takes, at one node: an instance and the controller, on a message of a move, leave it with labels as before, and of its
 -- record and its packets no more than a plain packet of it changes.
-use Rattle.proof_machines.proofs.net.Words.{◌≡◌, ℕ, ◌≤◌, ◌<◌, Bool, true, false, Option, Some, None, List, [], ◌∷◌, refl, sym, ap, ◌∙◌, subst, arith}
-use Rattle.proof_machines.proofs.net.Words.{if◌then◌else◌, ◌==◌, nat_tests, self, Op, where_true, add, sent_for, only_mine, off_if, NodesDiffer, Each, items}
-use Rattle.proof_machines.proofs.net.Words.{rest_at, Filter, Msg, Carry_on, Pass_on, Fence_on, Mv, Sys, IsSys, rule_of, held_of, NumberedInstance, InstanceTurn}
-use Rattle.proof_machines.proofs.net.Words.{says, on_move, inst_step, Open, find_op, ControllerMove, ctrl_step, seen, Seeing, EachSent, frame, Label, OpLabel}
-use Rattle.proof_machines.proofs.net.Words.{SeesNode, IsController, Below, RestRule, RestOp, NothingOf, none_mine, same_unit, either_way, Unit}
+use Rattle.proof_machines.proofs.unit.Lists.{cons_option_nil}
+use Rattle.proof_machines.proofs.NumberedLists.{none_below}
+use Rattle.proof_machines.proofs.net.Words.{find_rule, ◌≡◌, ℕ, ◌≤◌, ◌<◌, Bool, true, false, Option, Some, None, List, [], ◌∷◌, refl, sym, ap, ◌∙◌, subst, arith}
+use Rattle.proof_machines.proofs.net.Words.{if◌then◌else◌, ◌==◌, nat_tests, self, Op, where_true, sent_for, only_mine, off_if, NodesDiffer, Each}
+use Rattle.proof_machines.proofs.net.Words.{filter_map, rest_at, Filter, Msg, Carry_on, Pass_on, Fence_on, Mv, Sys, IsSys, rule_of, held_of, NumberedInstance}
+use Rattle.proof_machines.proofs.net.Words.{InstanceTurn, says, on_move, inst_step, Open, find_op, ControllerMove, ctrl_step, seen, Seeing, EachSent, frame}
+use Rattle.proof_machines.proofs.net.Words.{Label, OpLabel, SeesNode, IsController, Below, RestRule, RestOp, NothingOf, none_mine, same_unit, either_way, Unit}
 use Rattle.proof_machines.proofs.unit.Machine as moves
 use Rattle.proof_machines.proofs.unit.Real
 use Rattle.proof_machines.proofs.net.Insts.{InstanceGoes, does, carry_goes, pass_goes, fence_goes}
 use Rattle.proof_machines.proofs.net.InstMoves.{MovesInstance, MovesInstance.Any, MovesInstance.Streams_out, MovesInstance.Puts_in, move_goes}
 use Rattle.proof_machines.proofs.net.CtrlUnit.{SeesController, mdid, ctrl_unit}
-use Rattle.proof_machines.proofs.net.RestingSeats.{same_mine, mv_label, mv_unseen, no_rule, no_op, rule_labels, op_labels, rules_rest, ops_rest, mv_nothing}
+use Rattle.proof_machines.proofs.net.RestingSeats.{mv_label, mv_unseen, rule_labels, op_labels, rules_rest, ops_rest, mv_nothing}
 use Rattle.proof_machines.proofs.net.GlobalShares.{ctrl_none}
 
 module _ {R : Type 0} (S : Sys R) (laws : IsSys S) (u : Unit) where
@@ -48,16 +50,12 @@ module _ {R : Type 0} (S : Sys R) (laws : IsSys S) (u : Unit) where
     le_self = omega arith
 
     abbrev its : List (Msg R) → List (moves.Item R)
-    its ms = items (seen (frame S z)) ms
+    its ms = filter_map (seen (frame S z)) ms
 
     nothing_one : (i : ℕ) (m : Msg R) → seen (frame S z) m ≡ None → Label S z i m → NothingOf S u i m
     nothing_one i (Mv g m) none l = (l.0, mv_nothing S z g m none l.1)
     nothing_one i (Pass_on p) none l = off_if (mine p) _ none
     nothing_one i m none l = tt
-
-    add_nil : (o : Option (moves.Item R)) (v : List (moves.Item R)) → add o v ≡ [] → (o ≡ None) × (v ≡ [])
-    add_nil None v e = (refl, e)
-    add_nil (Some it) v e = cc
 
     -- sends of which nothing is seen
     nothing_sent : (xs : List (ℕ × Msg R)) → EachSent (λ j m. Label S z 1 m) xs → ((j : ℕ) → its (sent_for j xs) ≡ []) → EachSent (λ _ m. NothingOf S u 1 m) xs
@@ -65,11 +63,11 @@ module _ {R : Type 0} (S : Sys R) (laws : IsSys S) (u : Unit) where
     nothing_sent (x ∷ xs) l e = (nothing_one 1 x.1 (here (x.0 == x.0) (self x.0) (e x.0)) l.0, nothing_sent xs l.1 (λ j. later (x.0 == j) j (e j)))
       where
         here : (t : Bool) → t ≡ true → its (if t then x.1 ∷ sent_for x.0 xs else sent_for x.0 xs) ≡ [] → seen (frame S z) x.1 ≡ None
-        here true _ h = (add_nil (seen (frame S z) x.1) (its (sent_for x.0 xs)) h).0
+        here true _ h = (cons_option_nil (seen (frame S z) x.1) (its (sent_for x.0 xs)) h).0
         here false off h = let never : false ≡ true = off in cc
 
         later : (t : Bool) (j : ℕ) → its (if t then x.1 ∷ sent_for j xs else sent_for j xs) ≡ [] → its (sent_for j xs) ≡ []
-        later true j h = (add_nil (seen (frame S z) x.1) (its (sent_for j xs)) h).1
+        later true j h = (cons_option_nil (seen (frame S z) x.1) (its (sent_for j xs)) h).1
         later false j h = h
 
     -- An instance
@@ -78,7 +76,7 @@ module _ {R : Type 0} (S : Sys R) (laws : IsSys S) (u : Unit) where
       x = moves.idle (S.B.at u i.live)
 
       sees : SeesNode S z i x
-      sees = let none = no_rule S z b le_self i.rules few in
+      sees = let none : find_rule b i.rules ≡ None = none_below _ b b i.rules le_self few in
           record {
             live = refl;
             rule = ap rule_of none;
@@ -100,7 +98,7 @@ module _ {R : Type 0} (S : Sys R) (laws : IsSys S) (u : Unit) where
         live = g.node.live;
         rules = rules_rest S z did.node.rules g.node.rule g.node.rules;
         sends = nothing_sent did.sends g.labels (all_none did (moves.sends x []) g refl);
-        ran = same_mine S z did.ran ∙ g.ran;
+        ran = g.ran;
       }
 
       packet : (did : InstanceTurn S) (p : ℕ) → Goes did (Some (moves.Carry p)) → LeavesInstance i did (p ∷ [])
@@ -108,7 +106,7 @@ module _ {R : Type 0} (S : Sys R) (laws : IsSys S) (u : Unit) where
         live = g.node.live;
         rules = rules_rest S z did.node.rules g.node.rule g.node.rules;
         sends = nothing_sent did.sends g.labels (all_none did (moves.ran_one S.F moves.At_a x p) g refl);
-        ran = same_mine S z did.ran ∙ g.ran;
+        ran = g.ran;
       }
 
       of_move : (g : Filter) (m : Real.Msg R) → MovesInstance S laws z (self b) moves.At_a i x sees (on_move S i g m) (Real.seen (frame S z) m)
@@ -145,7 +143,7 @@ module _ {R : Type 0} (S : Sys R) (laws : IsSys S) (u : Unit) where
       at_rest = rest_at S.F moves.At_a [] [] (moves.Over moves.Idle) true
 
       none_open : find_op es b ≡ None
-      none_open = no_op S z b le_self es few
+      none_open = none_below _ b b es le_self few
 
       labs : Each (OpLabel S z) es
       labs = op_labels S z b le_self es few rests

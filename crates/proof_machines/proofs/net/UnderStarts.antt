@@ -17,14 +17,9 @@ use Rattle.proof_machines.proofs.net.ShareLinks.{view_put}
 use Rattle.proof_machines.proofs.net.Under.{Under, put_labels}
 
 -- the fold depends on the packets alone
-fold_packets : {R : Type 0} (F : Steps R) (r : Option R) (d : List moves.Ran) (ds : List Ran) → firsts d ≡ packets ds → moves.runs F r d ≡ runs F r ds
-fold_packets F r [] [] e = refl
-fold_packets F r [] (x ∷ ds) e = cc
-fold_packets F r (x ∷ d) [] e = cc
-fold_packets F r (x ∷ d) (y ∷ ds) e =
-    let same_first : x.0 ≡ y.0 = cc in
-    let others : firsts d ≡ packets ds = cc in
-    ap (λ p. moves.runs F (Some (F.step r p)) d) same_first ∙ fold_packets F (Some (F.step r y.0)) d ds others
+pub fold_packets : {R : Type 0} (F : Steps R) (o : Option R) (ds : List Ran) → runs F o ds ≡ moves.fold F o (packets ds)
+fold_packets F o [] = refl
+fold_packets F o (d ∷ ds) = fold_packets F (Some (F.step o d.0)) ds
 
 module _ {R : Type 0} (S : Sys R) (A : Sharing S) (u : Unit) where
   -- a unit and the share that is asked for
@@ -97,7 +92,7 @@ module _ {R : Type 0} (S : Sys R) (A : Sharing S) (u : Unit) where
     plain i j [] of few below h = refl
     plain i j (New m ∷ ms) of few below h = ap (λ o. add o (share_items S A z j ms)) (new_none j m of.0 few.0) ∙ plain i j ms of.1 few.1 below h
     plain i j (Old (Carry_on p) ∷ ms) of few below h = elim (same_unit (S.packet_unit p) u)
-        as (λ b. add (where_true b (Carry p)) (share_items S A z j ms) ≡ map Carry (if b then p ∷ carries_of S u (olds ms) else carries_of S u (olds ms)))
+        as (λ b. add (where_true b (Carry p)) (share_items S A z j ms) ≡ map Carry (add (where_true b p) (carries_of S u (olds ms))))
         [ true ↦ ap (λ v. Carry p ∷ v) (plain i j ms of few below.1 h.1) | false ↦ plain i j ms of few below.1 h.1 ]
     plain i j (Old (Pass_on p) ∷ ms) of few below h = ap (λ b. add (where_true b Stray) (share_items S A z j ms)) h.0 ∙ plain i j ms of few below.1 h.1
     plain i j (Old (Fence_on n) ∷ ms) of few below h =
@@ -173,5 +168,5 @@ module _ {R : Type 0} (S : Sys R) (A : Sharing S) (u : Unit) where
         own_first : (b : Bool) (k : ℕ) → (k == x.home) ≡ b
             → own_of S A z b (w.inst k).live (w.standby k) ≡ after (unit_share S A z) (if b then ran_of S A u w.done else (by k).seen)
         own_first true k on = h.live k ∙ ap (λ t. if t then moves.after S.F d else None) on
-            ∙ fold_packets S.F None d (ran_of S A u w.done) (sym h.done ∙ sym (packets_done w.done))
+            ∙ ap (moves.fold S.F None) (sym h.done ∙ sym (packets_done w.done)) ∙ sym (fold_packets S.F None (ran_of S A u w.done))
         own_first false k out = (by k).fold

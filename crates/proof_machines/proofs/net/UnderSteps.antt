@@ -1,4 +1,5 @@
 -- Each node's step keeps a unit under a share.
+use Rattle.proof_machines.proofs.unit.Labels.{each_map}
 use Rattle.proof_machines.proofs.net.Words.{◌≡◌, ℕ, Bool, true, false, None, List, [], ◌∷◌, ◌++◌, ◌⊎◌, inl, inr, refl, sym, ap, ◌∙◌, append-nil, append_assoc}
 use Rattle.proof_machines.proofs.net.Words.{arith, if◌then◌else◌, ◌&&◌, ◌==◌, nat_tests, Decides-eqb, neither, M_install, M_fence_to, M_forward, where_true}
 use Rattle.proof_machines.proofs.net.Words.{add, Each, Carry, Arrive, has, if_mine, Stage, Diverting, late, shape, IsShare, FitsStage, goes_on, to_members}
@@ -8,7 +9,7 @@ use Rattle.proof_machines.proofs.net.Words.{Diverted_on, S_install, as_old, Shar
 use Rattle.proof_machines.proofs.net.Words.{whole_inst, whole_ctrl, whole_switch, whole_input, SeeingShare, either_way, split, placed}
 use Rattle.proof_machines.proofs.share.Share.{moved}
 use Rattle.proof_machines.proofs.net.AsMoves.{old_sends, old_sends-append, old_sends-old, member_new, by_share_new}
-use Rattle.proof_machines.proofs.net.NewMessages.{each_sent_map, new_head}
+use Rattle.proof_machines.proofs.net.NewMessages.{new_head}
 use Rattle.proof_machines.proofs.net.UnderOld.{inst_leaves, ctrl_leaves}
 use Rattle.proof_machines.proofs.net.ShareLinks.{holds_alike}
 use Rattle.proof_machines.proofs.net.ShareLabels.{label_of}
@@ -74,7 +75,7 @@ module _ {R : Type 0} (S : Sys R) (A : Sharing S) (z : SeeingShare) where
             sees = sees;
             keeps = record {
               labels = after_old S A z w.link p y m rest (as_old sent) sent waits (old_sends-old sent) u.labels
-                  (each_sent_map (λ _ m. NothingOf S z.unit 1 m) (λ _ m. NothingOf S z.unit y m) (λ _ m h. of_sender y y0 m h) sent leaves.sends);
+                  (each_map (λ x h. of_sender y y0 x.1 h) sent leaves.sends);
               rules = λ k. elim (k == y) as (λ b. Each (RestRule S z.unit) (if b then (inst_step S (w.inst y) m).node else w.inst k).rules)
                   [ true ↦ leaves.rules | false ↦ u.rules k ];
               ops = u.ops;

@@ -1,5 +1,6 @@
 -- Each node's step and each begin of a move leaves a unit at rest or in a move, with all its packets that arrived.
-use Rattle.proof_machines.proofs.net.Words.{◌≡◌, ◌≢◌, ℕ, suc, ◌+◌, ◌≤◌, ◌<◌, Bool, true, false, Option, Some, None, List, [], ◌∷◌, ◌++◌, refl, sym, ap, ◌∙◌}
+use Rattle.proof_machines.proofs.NumberedLists.{find-append_own, find-append_other, none_below}
+use Rattle.proof_machines.proofs.net.Words.{◌≡◌, ◌≢◌, ℕ, suc, ◌+◌, ◌≤◌, Bool, true, false, Option, Some, None, List, [], ◌∷◌, ◌++◌, refl, sym, ap, ◌∙◌}
 use Rattle.proof_machines.proofs.net.Words.{subst, append-nil, arith, if◌then◌else◌, ◌&&◌, ◌||◌, ◌==◌, nat_tests, Decides-eqb, self, At_a, At_b, Ran, Drops}
 use Rattle.proof_machines.proofs.net.Words.{Item, Enable, State, Freezing, firsts, Turned_loose, Fenced_loose, Ending_loose, Fence_loose, loose, times}
 use Rattle.proof_machines.proofs.net.Words.{IsOrderedAs, M_enable, M_install, Op, sent_for, NodesDiffer, Each, each-append, Nodes, expect, is_over, AtRestNow}
@@ -234,16 +235,7 @@ module _ {R : Type 0} (S : Sys R) (laws : IsSys S) (u : Unit) where
         handed = k.handed;
       })
 
-  -- A move begins.
-  find_old : (es : List (Open R)) (x : Open R) (n : ℕ) → (x.op.num == n) ≡ false → find_op (es ++ x ∷ []) n ≡ find_op es n
-  find_old [] x n off = rw off refl
-  find_old (e ∷ es) x n off = ap (λ o. if e.op.num == n then Some e else o) (find_old es x n off)
-
-  find_new : (es : List (Open R)) (x : Open R) (n : ℕ) → (x.op.num == n) ≡ true → Each (λ e. e.op.num < n) es → find_op (es ++ x ∷ []) n ≡ Some x
-  find_new [] x n on h = rw on refl
-  find_new (e ∷ es) x n on h = let few = h.0 in let off : (e.op.num == n) ≡ false = grind (arith, nat_tests, few) in rw off (find_new es x n on h.1)
-
-  -- for a unit that the filter doesn't take
+  -- A move begins: for a unit that the filter doesn't take
   pub other_begins : (o : Op) (third : ℕ) (w : World S) (x : MoveAsked) (v : State R) → (x.num == o.num) ≡ false → S.takes x.filter u ≡ false
       → NodesDiffer (new_op {R = R} x.num x).op → Holds S (see o third) w v → Holds S (see o third) (begin_next S w x) v
   other_begins o third w x v off out apart h =
@@ -257,14 +249,10 @@ module _ {R : Type 0} (S : Sys R) (laws : IsSys S) (u : Unit) where
         labels = p.labels;
         insts = h.insts;
         target = h.target;
-        ctrl = subst (λ f. IsController S z f v) (sym (find_old w.ops (new_op x.num x) o.num off)) h.ctrl;
+        ctrl = subst (λ f. IsController S z f v) (sym (find-append_other _ o.num (new_op x.num x) w.ops off)) h.ctrl;
         ops = each-append (OpLabel S z) w.ops (new_op x.num x ∷ []) h.ops ((out ∙ sym off, (λ _. (tt, refl)), apart), tt);
         done = h.done;
       }
-
-  each_less : (a b : ℕ) → a ≤ b → (es : List (Open R)) → Each (λ e. e.op.num < a) es → Each (λ e. e.op.num < b) es
-  each_less a b few [] h = tt
-  each_less a b few (e ∷ es) h = let k = h.0 in (omega (arith, k, few), each_less a b few es h.1)
 
   -- for one that it takes: the move's first message goes out
   enable_links : (z : Seeing) (v : State R) (send : ℕ → List (Item R)) → Nodes z.op.src z.op.dst z.third → send z.op.src ≡ Enable Drops ∷ []
@@ -290,7 +278,7 @@ module _ {R : Type 0} (S : Sys R) (laws : IsSys S) (u : Unit) where
         insts = h.insts;
         target = h.target;
         ctrl = subst (λ f. IsController S z f (record v { phase = Freezing; keep = x.keep; ca = v.ca ++ Enable Drops ∷ [] }))
-            (sym (find_new w.ops (new_op x.num x) x.num on (each_less w.next x.num fresh w.ops g.ops))) (refl, refl, sym store, refl);
+            (sym (find-append_own _ x.num (new_op x.num x) w.ops on (none_below _ w.next x.num w.ops fresh g.ops))) (refl, refl, sym store, refl);
         ops = each-append (OpLabel S z) w.ops (new_op x.num x ∷ []) h.ops ((takes ∙ sym on, (λ _. (tt, refl)), apart), tt);
         done = h.done;
       }

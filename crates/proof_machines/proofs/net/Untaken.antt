@@ -1,11 +1,13 @@
 -- A unit that no share has: no message of a share and no queue has anything of it, and where a share's filter takes it, its packets go
 -- elsewhere than to the share's home. With the switch's and the controller's steps, which keep it so.
-use Rattle.proof_machines.proofs.net.Words.{◌≡◌, ℕ, true, false, Some, None, List, [], ◌∷◌, ◌++◌, refl, ◌∙◌, if◌then◌else◌, ◌&&◌, ◌==◌, Chunks, record_at, Each}
+use Rattle.proof_machines.proofs.EachLaws.{each_fails, none_passes}
+use Rattle.proof_machines.proofs.unit.Labels.{each_map}
+use Rattle.proof_machines.proofs.net.Words.{◌≡◌, ℕ, true, false, Some, None, List, [], ◌∷◌, ◌++◌, refl, ◌∙◌, ◌&&◌, ◌==◌, Chunks, record_at, Each}
 use Rattle.proof_machines.proofs.net.Words.{Sys, none_mine, AreNumbersApart, found_each, each_set_share, set_find, Any, Old, New, ShareMsg, Shared_on}
 use Rattle.proof_machines.proofs.net.Words.{Diverted_on, S_asked, S_install, S_forward, S_get, S_sync, S_chunks, S_shared, S_synced, EachNew, as_old, Sharing}
 use Rattle.proof_machines.proofs.net.Words.{OpenShare, find_share, set_share, Told, share_row, told_by, SharesStep, by_share, WholeWorld, old_step, whole_ctrl}
-use Rattle.proof_machines.proofs.net.Words.{same_unit, same_unit_equiv, split, Unit, SharePhase}
-use Rattle.proof_machines.proofs.net.NewMessages.{OnNew, EachSentNew, each_new_map, each_sent_map, sent_old_and, new_after, new_head}
+use Rattle.proof_machines.proofs.net.Words.{same_unit, same_unit_equiv, Unit, SharePhase}
+use Rattle.proof_machines.proofs.net.NewMessages.{OnNew, EachSentNew, each_new_map, sent_old_and, new_after, new_head}
 use Rattle.proof_machines.proofs.net.ShareRows.{Tells, told_cases, ToldOf, SentBy, share_row_by}
 
 module _ {R : Type 0} (S : Sys R) (u : Unit) where
@@ -27,14 +29,10 @@ module _ {R : Type 0} (S : Sys R) (u : Unit) where
   Others ps = Each (λ p. same_unit (S.packet_unit p) u ≡ false) ps
 
   pub others_of : (ps : List ℕ) → none_mine S u ps ≡ [] → Others ps
-  others_of [] e = tt
-  others_of (p ∷ ps) e = split (same_unit (S.packet_unit p) u) (λ b. (if b then p ∷ none_mine S u ps else none_mine S u ps) ≡ [] → Others (p ∷ ps))
-      (λ _ bad. cc)
-      (λ off rest. (off, others_of ps rest)) e
+  others_of ps e = each_fails _ ps e
 
   pub none_of : (ps : List ℕ) → Others ps → none_mine S u ps ≡ []
-  none_of [] h = refl
-  none_of (p ∷ ps) h = let off = h.0 in rw off (none_of ps h.1)
+  none_of ps h = none_passes _ ps h
 
   module _ (A : Sharing S) where
     pub record Untaken (w : WholeWorld S A) : Type 0 where
@@ -99,9 +97,7 @@ module _ {R : Type 0} (S : Sys R) (u : Unit) where
                   (found_each (ElsewhereHome w.target) w.shares e.num e h.homes there) h.homes;
               queues = each_set_share (λ e. none_mine S u e.queue ≡ []) e.num r.phase r.queue w.shares e there (none_of r.queue k.0) h.queues;
               links = λ m x. no_share_set e.num r.phase r.queue w.shares m x;
-              sends = each_sent_map (SentBy S A e (λ p. same_unit (S.packet_unit p) u ≡ false) IsNotIn)
-                  (λ j m. OnNew (NoShare (set_share e.num r.phase r.queue w.shares)) m)
-                  (λ j m x. sent_none (set_share e.num r.phase r.queue w.shares) e j m x) r.sends k.1;
+              sends = each_map (λ x h. sent_none (set_share e.num r.phase r.queue w.shares) e x.0 x.1 h) r.sends k.1;
             }
 
     pub head_none : (w : WholeWorld S A) (p k : ℕ) (m : Any R) (rest : List (Any R)) → (p == 0) && (k == 0) ≡ false → w.link p k ≡ m ∷ rest → Untaken w

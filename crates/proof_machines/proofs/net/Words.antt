@@ -21,12 +21,11 @@ pub use Rattle.proof_machines.proofs.net.Holding.{Seeing, frame, node_at, place,
 pub use Rattle.proof_machines.proofs.net.Holding.{sides_of, SeesNode, done_of}
 pub use Rattle.proof_machines.proofs.net.Links.{head, each_put, each_after, sent, view_some, view_none, done_of-append, done_at, view_put}
 pub use Rattle.proof_machines.proofs.net.Net.{Msg, MoveAsked, Sys, process, inst_step, ctrl_step, sw_sends, begin_sends, behind, links_after, inst_next}
-pub use Rattle.proof_machines.proofs.net.Net.{ctrl_next, sw_next, begin_next, IsSys, Open, find_op, World, seen, Msg.Mv, set_op, close_op, write_op, num_of}
-pub use Rattle.proof_machines.proofs.net.Net.{Msg.Carry_on, Msg.Pass_on, Msg.Fence_on, row_of, row, filter_for, wrap, ControllerMove, found, numbered}
-pub use Rattle.proof_machines.proofs.net.Net.{Msg.In_packet, Msg.Asked, find_rule, rule_of, held_of, in_next, Ruling, first_rule, set_rule, hold, holding}
-pub use Rattle.proof_machines.proofs.net.Net.{drop_rule, to_ctrl, NumberedInstance, by_kind, by_rule, new_op, InstanceTurn, meets_any, everything, says}
-pub use Rattle.proof_machines.proofs.net.Net.{with_table, on_move, is_free, at_node, process_all, runs_it, fenced, change_rules, has_rule, ruled_by, new_rule}
-pub use Rattle.proof_machines.proofs.net.Net.{sw_target}
+pub use Rattle.proof_machines.proofs.net.Net.{ctrl_next, sw_next, begin_next, IsSys, Open, find_op, World, seen, Msg.Mv, set_op, write_op, num_of, Msg.Carry_on}
+pub use Rattle.proof_machines.proofs.net.Net.{Msg.Pass_on, Msg.Fence_on, row_of, row, filter_for, wrap, ControllerMove, found, numbered, Msg.In_packet}
+pub use Rattle.proof_machines.proofs.net.Net.{Msg.Asked, find_rule, rule_of, held_of, in_next, Ruling, first_rule, set_rule, hold, holding, drop_rule, to_ctrl}
+pub use Rattle.proof_machines.proofs.net.Net.{NumberedInstance, by_kind, by_rule, new_op, InstanceTurn, meets_any, everything, says, with_table, on_move}
+pub use Rattle.proof_machines.proofs.net.Net.{is_free, at_node, process_all, runs_it, fenced, change_rules, has_rule, ruled_by, new_rule, sw_target}
 pub use Rattle.proof_machines.proofs.net.Rest.{Rest, carries_of, done_u, NothingOf, Global, RestRule, RestOp, Below, IsBelow, none_mine, below_off, HasNothing}
 pub use Rattle.proof_machines.proofs.net.ShareLists.{find_old, find_new, SameShare, AreNumbersApart, find_set, set_find, find_more, found_each, found_num}
 pub use Rattle.proof_machines.proofs.net.ShareLists.{each_set_share, found_own}
@@ -61,29 +60,30 @@ pub use Rattle.proof_machines.proofs.unit.Ends.{same_of}
 pub use Rattle.proof_machines.proofs.unit.Kept.{frozen_in, free_in, Kept, lives, on_way, Nowhere, Is_live, On_way, Twice}
 pub use Rattle.proof_machines.proofs.unit.Labels.{Each, Without, Clean, Foreign, SentForeign, StaysClean, from_source_clean, from_destination_clean}
 pub use Rattle.proof_machines.proofs.unit.Labels.{each-append, each_map, each_any, cut_foreign, each_both}
-pub use Rattle.proof_machines.proofs.unit.Lists.{firsts, firsts-append, firsts-on, none_is, never_true, cons_nil}
+pub use Rattle.proof_machines.proofs.unit.Lists.{firsts, firsts-on, none_is, never_true, cons_nil}
 pub use Rattle.proof_machines.proofs.unit.Machine.{At_a, At_b, At_c, Ran, after, State, Item, Put_no, Where, Enable, Stream, Delete, Put, Restore, Fence_to}
 pub use Rattle.proof_machines.proofs.unit.Machine.{ControllerTurn, goes, from_source, from_destination, Over, Pass, Rule, Free, Drops, Buffers, Part, Inst, Did}
-pub use Rattle.proof_machines.proofs.unit.Machine.{inst_does, MachineStep, Take_sa, Take_sb, Take_ca, Take_cb, moved, put_a, put_b, put_c, on, carried, ran_one}
+pub use Rattle.proof_machines.proofs.unit.Machine.{inst_does, MachineStep, Take_sa, Take_sb, Take_ca, Take_cb, moved, put_a, put_b, put_c, carried, ran_one}
 pub use Rattle.proof_machines.proofs.unit.Machine.{Steps, delete, next, Take_ac, Take_bc, put_ctrl, idle, Passing, Ending, Ended, Freezing, switch_does}
 pub use Rattle.proof_machines.proofs.unit.Machine.{redirected, send_to, Begin, Where as Side, sends as did_sends}
-pub use Rattle.proof_machines.proofs.unit.NetViews.{items, items-append}
+pub use Rattle.std.specs.List.{filter_map}
+pub use Rattle.std.proofs.lemmas.List.{map-append}
+pub use Rattle.std.proofs.lemmas.List.Elements.{filter-append, filter_map-append}
 pub use Rattle.proof_machines.proofs.unit.Pairs.{Nodes, expect, ShownBy, By_sa, By_sb, By_sc, By_ca, By_cb, By_ac, By_bc, By_cc, By_cs, shown_by, after_take}
 pub use Rattle.proof_machines.proofs.unit.Pairs.{a_from_s, a_from_c, b_from_s, b_from_c, c_from_s, nothing_seen, ctrl_from_a, ctrl_from_b, switch_from_c}
 pub use Rattle.proof_machines.proofs.unit.Pairs.{arrives_at}
 pub use Rattle.proof_machines.proofs.unit.Real.{Chunks, sent_for, Op, record_at, RPiece, RPhase, M_event, M_put_no, Frame, see, see_phase, M_enable, M_stream}
 pub use Rattle.proof_machines.proofs.unit.Real.{M_delete, M_put, M_restore, M_forward, M_install, M_fence_to, r_goes, r_from_source, r_from_destination}
-pub use Rattle.proof_machines.proofs.unit.Real.{where_true, sends_to, only_mine, Sees, M_enabled, M_piece, M_deleted, M_put_ok, M_restored, M_fenced}
+pub use Rattle.proof_machines.proofs.unit.Real.{where_true, sends_to, only_mine, Sees, M_enabled, M_piece, M_fenced}
 pub use Rattle.proof_machines.proofs.unit.Real.{OperationTurn, none_if, add, view, off_if, r_words, put_to, forward_to, sends_of}
-pub use Rattle.proof_machines.proofs.unit.Rests.{Silent, none_carried, is_over, exactly}
+pub use Rattle.proof_machines.proofs.unit.Rests.{Silent, is_over, exactly}
 pub use Rattle.proof_machines.proofs.unit.Seats.{UnitSeat, seat_shape, seat_all, seat_rests, is_covered, seat_loose, seat_goes_on, covered_stays, seat_allowed}
 pub use Rattle.proof_machines.proofs.unit.Seats.{base_of, Covered, Is_beside, Is_away, seat_path}
-pub use Rattle.proof_machines.proofs.unit.Seen.{NodesDiffer, frame_of, quiet, did_a, did_b, from_source_seen, from_destination_seen, only_mine-append}
-pub use Rattle.proof_machines.proofs.unit.Seen.{sent_for-append}
+pub use Rattle.proof_machines.proofs.unit.Seen.{NodesDiffer, frame_of, quiet, did_a, did_b, from_source_seen, from_destination_seen, sent_for-append}
 pub use Rattle.proof_machines.proofs.unit.SeenInst.{r_put, SeesInstance, r_stream, r_delete, r_restore, parts_of, stream_seen, delete_seen, restore_seen}
 pub use Rattle.proof_machines.proofs.unit.SeenInst.{put_seen}
 pub use Rattle.proof_machines.proofs.unit.Stages.{IsOrderedAs, Allowed, arrived_by, Streams, Laying, Turned, Fenced_a, Ending_b, Turned_loose, Fenced_loose}
-pub use Rattle.proof_machines.proofs.unit.Stages.{Ending_loose, Returned, Doorway, Is_wide, puts_of, to_a, to_b, times, Same, Fence_b, Fence_loose, Fenced_b}
+pub use Rattle.proof_machines.proofs.unit.Stages.{Ending_loose, Returned, Doorway, Is_wide, puts_of, to_a, times, Same, Fence_b, Fence_loose, Fenced_b}
 pub use Rattle.proof_machines.proofs.unit.Stages.{Moved, loose, At_rest}
 pub use Rattle.proof_machines.proofs.unit.UnitPieces.{records, first, ArePiecesOf, first_of_one, nil_left}
 pub use Rattle.nf_function.specs.declared.unit.Unit.{Unit}

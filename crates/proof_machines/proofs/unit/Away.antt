@@ -1,9 +1,9 @@
 -- Each step for a unit that a third instance owns, while a move takes it: its packets stay in order, its record stays there.
+use Rattle.std.proofs.lemmas.List.Sums.{fold-append}
 use Rattle.proof_machines.proofs.unit.Words.{◌≡◌, ℕ, Bool, true, false, List, [], ◌∷◌, ◌++◌, map, refl, sym, ap, ◌∙◌, append_assoc, append-nil, option_to_list}
 use Rattle.proof_machines.proofs.unit.Words.{map-append, At_a, At_b, At_c, Ran, Steps, after, Item, Carry, Forward, Fence_to, idle, Phase, Idle, State}
 use Rattle.proof_machines.proofs.unit.Words.{MachineStep, Begin, Arrive, Take_sa, Take_sb, Take_sc, Take_ac, Take_bc, Take_ca, Take_cb, Take_cs, moved, begun}
-use Rattle.proof_machines.proofs.unit.Words.{switch_does, Over, firsts, firsts-append, runs-append, Stage, shape, all_of, Allowed, Placed, arrived_by, still}
-use Rattle.proof_machines.proofs.unit.Words.{one_more}
+use Rattle.proof_machines.proofs.unit.Words.{switch_does, Over, firsts, Stage, shape, all_of, Allowed, Placed, arrived_by, still, one_more}
 use Rattle.proof_machines.proofs.unit.Kept.{lives, on_way}
 use Rattle.proof_machines.proofs.unit.Bare.{bare_facts, stays_bare}
 use Rattle.proof_machines.proofs.unit.Steps.{goes_on}
@@ -87,8 +87,8 @@ away_goes_on F s Take_sc a =
       | [] ↦ λ e. (s, rw e refl, sym (append-nil (all_away s)), still At_c s.d)
       | p ∷ l ↦ λ e. (
         record { base = s.base; bare = s.bare; d = s.d ++ (p, At_c) ∷ []; l = l },
-        rw e (rw none (simp (runs-append, append_assoc, append-nil))),
-        rw e (simp (firsts-append, append_assoc, append-nil)),
+        rw e (rw none (simp (map-append, fold-append, append_assoc, append-nil))),
+        rw e (simp (map-append, append_assoc, append-nil)),
         one_more At_c s.d p,
       )
     ] refl

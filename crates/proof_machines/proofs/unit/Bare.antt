@@ -1,82 +1,63 @@
 -- A stage without any packet of the unit has no record of it and holds nothing; a step in which no packet comes leaves it so.
 use Rattle.proof_machines.proofs.unit.Words.{◌≡◌, ℕ, ◌+◌, Bool, true, false, Option, Some, None, List, [], ◌∷◌, ◌++◌, map, refl, ap, ◌∙◌, arith, if◌then◌else◌}
-use Rattle.proof_machines.proofs.unit.Words.{◌==◌, option_to_list, Ran, Steps, after, Part, Rule, Free, Drops, Buffers, Item, Carry, Pass, Fence, Enable, Put}
+use Rattle.proof_machines.proofs.unit.Words.{◌==◌, option_to_list, Steps, after, Rule, Free, Drops, Buffers, Item, Carry, Pass, Fence, Enable, Put}
 use Rattle.proof_machines.proofs.unit.Words.{next, State, MachineStep, firsts, marked, nil_left, nil_right, Stage, At_rest, Streams, Is_wide, shape, path}
 use Rattle.proof_machines.proofs.unit.Words.{all_of, loose, times, Same, IsOrderedAs, Allowed, arrived_by}
+use Rattle.std.specs.List.{list_all}
 use Rattle.std.proofs.lemmas.Bool.Decides.{Decides-eqb}
-use Rattle.proof_machines.proofs.unit.Path.{passes_in, carries, path_of, carry, pass, path_is}
+use Rattle.std.proofs.lemmas.List.Folds.{list_all-append}
+use Rattle.proof_machines.proofs.Tests.{by_if}
+use Rattle.proof_machines.proofs.unit.Lists.{all_pass, map_nil}
+use Rattle.proof_machines.proofs.unit.Path.{passes_in, carries, path_of, none_of, carry, pass, path_is}
 use Rattle.proof_machines.proofs.unit.Kept.{Kept, Nowhere, Is_live, On_way, Twice, is_kept, lives, on_way, records_on, frozen_in}
 use Rattle.proof_machines.proofs.unit.Steps.{goes_on}
 
 -- what the switch sends to B
-abbrev pub from_switch : {R : Type 0} → List (Item R) → Bool
-from_switch [] = true
-from_switch (Carry p ∷ xs) = from_switch xs
-from_switch (Pass p ∷ xs) = from_switch xs
-from_switch (Fence ∷ xs) = from_switch xs
-from_switch (_ ∷ xs) = false
+abbrev from_switch : {R : Type 0} → Item R → Bool
+from_switch (Carry p) = true
+from_switch (Pass p) = true
+from_switch Fence = true
+from_switch x = false
 
 -- what the controller sends to B
-abbrev pub to_dest : {R : Type 0} → List (Item R) → Bool
-to_dest [] = true
-to_dest (Enable Buffers ∷ xs) = to_dest xs
-to_dest (Put h first ∷ xs) = to_dest xs
-to_dest (_ ∷ xs) = false
+abbrev pub to_dest : {R : Type 0} → Item R → Bool
+to_dest (Enable Buffers) = true
+to_dest (Put h first) = true
+to_dest x = false
 
-abbrev pub fences : {R : Type 0} → List (Item R) → Bool
-fences [] = true
-fences (Fence ∷ xs) = fences xs
-fences (_ ∷ xs) = false
+abbrev pub is_fence : {R : Type 0} → Item R → Bool
+is_fence Fence = true
+is_fence x = false
 
 abbrev pub not_drops : Rule → Bool
 not_drops Drops = false
 not_drops r = true
 
-from_switch-append : {R : Type 0} (xs ys : List (Item R)) → from_switch xs ≡ true → from_switch (xs ++ ys) ≡ from_switch ys
-from_switch-append [] ys e = refl
-from_switch-append (Carry p ∷ xs) ys e = from_switch-append xs ys e
-from_switch-append (Pass p ∷ xs) ys e = from_switch-append xs ys e
-from_switch-append (Fence ∷ xs) ys e = from_switch-append xs ys e
-from_switch-append (x ∷ xs) ys e = cc
+carries_from : (R : Type 0) (l : List ℕ) → list_all from_switch (map (carry {R = R}) l) ≡ true
+carries_from R l = all_pass from_switch carry (λ p. refl) l
 
-carries_from : (R : Type 0) (l : List ℕ) → from_switch (map (carry {R = R}) l) ≡ true
-carries_from R [] = refl
-carries_from R (p ∷ l) = carries_from R l
+passes_from : (R : Type 0) (l : List ℕ) → list_all from_switch (map (pass {R = R}) l) ≡ true
+passes_from R l = all_pass from_switch pass (λ p. refl) l
 
-passes_from : (R : Type 0) (l : List ℕ) → from_switch (map (pass {R = R}) l) ≡ true
-passes_from R [] = refl
-passes_from R (p ∷ l) = passes_from R l
+mixed_from : (R : Type 0) (x : List (Bool × ℕ)) → list_all from_switch (map (marked {R = R}) x) ≡ true
+mixed_from R x = all_pass from_switch marked (λ m. by_if (λ it. from_switch it ≡ true) m.0 refl refl) x
 
-mixed_from : (R : Type 0) (x : List (Bool × ℕ)) → from_switch (map (marked {R = R}) x) ≡ true
-mixed_from R [] = refl
-mixed_from R ((true, p) ∷ x) = mixed_from R x
-mixed_from R ((false, p) ∷ x) = mixed_from R x
-
-puts_to : {R : Type 0} (w : List (Part R)) → to_dest (map next w) ≡ true
-puts_to [] = refl
-puts_to (h ∷ w) = puts_to w
-
-pub sb_kind : {R : Type 0} (F : Steps R) (s : Stage F) → from_switch (shape F s).sb ≡ true
+sb_kind : {R : Type 0} (F : Steps R) (s : Stage F) → list_all from_switch (shape F s).sb ≡ true
 sb_kind F (At_rest d l k) = refl
-sb_kind F s = first_of (simp (from_switch-append, carries_from, passes_from, mixed_from), cc)
+sb_kind F s = first_of (simp (list_all-append, carries_from, passes_from, mixed_from), cc)
 
-pub cb_kind : {R : Type 0} (F : Steps R) (s : Stage F) → to_dest (shape F s).cb ≡ true
-cb_kind F (Streams d f y q l k (Is_wide g w) fl) = puts_to w
+cb_kind : {R : Type 0} (F : Steps R) (s : Stage F) → list_all to_dest (shape F s).cb ≡ true
+cb_kind F (Streams d f y q l k (Is_wide g w) fl) = all_pass to_dest next (λ h. refl) w
 cb_kind F (Streams d f y q l k s fl) = refl
 cb_kind F (At_rest d l k) = refl
 cb_kind F s = refl
 
 if_not_drops : (k : Bool) → not_drops (if k then Buffers else Free) ≡ true
-if_not_drops true = refl
-if_not_drops false = refl
+if_not_drops k = by_if (λ r. not_drops r ≡ true) k refl refl
 
 pub b_rule : {R : Type 0} (F : Steps R) (s : Stage F) → not_drops (shape F s).b.rule ≡ true
 b_rule F (At_rest d l k) = refl
 b_rule F s = first_of (simp if_not_drops, cc)
-
-pub firsts_nil : (d : List Ran) → firsts d ≡ [] → d ≡ []
-firsts_nil [] e = refl
-firsts_nil (x ∷ d) e = cc
 
 -- lists with the same packets as none
 same_nil : (xs : List ℕ) → Same xs [] → xs ≡ []
@@ -98,7 +79,8 @@ stays_bare F s m a bare none =
     let g = goes_on F s m a in
     order_nil (loose g.0) (all_of g.0) (all_of s ++ arrived_by m) g.2 (rw (bare, none) refl)
 
-fences_alone : {R : Type 0} (xs : List (Item R)) → from_switch xs ≡ true → carries xs ≡ [] → passes_in xs ≡ [] → fences xs ≡ true
+fences_alone : {R : Type 0} (xs : List (Item R)) → list_all from_switch xs ≡ true → carries xs ≡ [] → passes_in xs ≡ []
+    → list_all is_fence xs ≡ true
 fences_alone [] s c p = refl
 fences_alone (Fence ∷ xs) s c p = fences_alone xs s c p
 fences_alone (Carry n ∷ xs) s c p = cc
@@ -112,8 +94,8 @@ pub record Bare {R : Type 0} (u : State R) : Type 0 where
   pub live : u.b.live ≡ None
   pub way : on_way u ≡ []
   pub cb_none : records_on u.cb ≡ []
-  pub cb_is : to_dest u.cb ≡ true
-  pub sb_is : fences u.sb ≡ true
+  pub cb_is : list_all to_dest u.cb ≡ true
+  pub sb_is : list_all is_fence u.sb ≡ true
   pub rule : not_drops u.b.rule ≡ true
 
 nil_option : {R : Type 0} (o : Option R) → option_to_list o ≡ [] → o ≡ None
@@ -130,15 +112,9 @@ no_record o a live way e (Twice r is _ x y) = let never : ⊥ = cc in absurd nev
 pub bare_facts : {R : Type 0} (F : Steps R) (s : Stage F) → all_of s ≡ [] → Bare (shape F s)
 bare_facts F s bare =
     let u = shape F s in
-    let done : u.done ≡ [] = firsts_nil u.done (nil_left (firsts u.done) (path s) bare) in
+    let done : u.done ≡ [] = map_nil _ u.done (nil_left (firsts u.done) (path s) bare) in
     let none : path_of u ≡ [] = path_is F s ∙ nil_right (firsts u.done) (path s) bare in
-    let p1 = nil_right (passes_in u.sa) _ none in
-    let p2 = nil_right (passes_in u.sb) _ p1 in
-    let p3 = nil_right _ _ p2 in
-    let p4 = nil_right u.store _ p3 in
-    let p5 = nil_right _ _ p4 in
-    let p6 = nil_right u.a.held _ p5 in
-    let p7 = nil_right (carries u.sa) _ p6 in
+    let nowhere = none_of u none in
     let kept = no_record (after F u.done) u.a.live (lives u) (on_way u) (ap (λ z. after F z) done) (is_kept F s) in
     let l1 = nil_right (option_to_list u.a.live) _ kept.0 in
     let w1 = nil_right (records_on u.ac) _ kept.1 in
@@ -146,12 +122,12 @@ bare_facts F s bare =
     let w3 = nil_right (records_on u.bc) _ w2 in
     record {
       done = done;
-      held = nil_left u.b.held (carries u.sb) p7;
+      held = nowhere.held_b;
       a_live = nil_option u.a.live (nil_left (option_to_list u.a.live) _ kept.0);
       way = kept.1;
       live = nil_option u.b.live (nil_left (option_to_list u.b.live) _ l1);
       cb_none = nil_left (records_on u.cb) _ w3;
       cb_is = cb_kind F s;
-      sb_is = fences_alone u.sb (sb_kind F s) (nil_right u.b.held (carries u.sb) p7) (nil_left (passes_in u.sb) _ p1);
+      sb_is = fences_alone u.sb (sb_kind F s) nowhere.carries_b nowhere.before.passes_b;
       rule = b_rule F s;
     }

@@ -4,7 +4,7 @@ use Rattle.proof_machines.proofs.unit.Words.{Steps, after, Item, Carry, idle, Ph
 use Rattle.proof_machines.proofs.unit.Words.{At_rest, Moved, Undone, rest, shape, all_of}
 use Rattle.proof_machines.proofs.unit.Path.{carries}
 use Rattle.proof_machines.proofs.unit.DestinationUnits.{strip, beside}
-use Rattle.proof_machines.proofs.unit.Bare.{firsts_nil}
+use Rattle.proof_machines.proofs.unit.Lists.{map_nil}
 use Rattle.proof_machines.proofs.unit.Rests.{is_over}
 use Rattle.proof_machines.proofs.unit.Seats.{UnitSeat, Covered, Is_beside, Is_away, seat_shape, seat_all, over_free}
 
@@ -41,7 +41,7 @@ pub data AtRestNow {R : Type 0} (F : Steps R) (u : State R) (all : List ℕ) : T
 
 -- the empty lists of a bare stage at rest
 nothing : (d : List Ran) (l : List ℕ) → firsts d ++ l ≡ [] → (d ≡ []) × (l ≡ [])
-nothing d l e = (firsts_nil d (nil_left (firsts d) l e), nil_right (firsts d) l e)
+nothing d l e = (map_nil _ d (nil_left (firsts d) l e), nil_right (firsts d) l e)
 
 away_over : {R : Type 0} (F : Steps R) (b : Stage F) (bare : all_of b ≡ []) (d : List Ran) (l : List ℕ) → is_over (shape F b).phase ≡ true
     → AtRestNow F (seat_shape F (Is_away (record { base = b; bare = bare; d = d; l = l }))) (firsts d ++ l)

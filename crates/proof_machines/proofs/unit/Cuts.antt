@@ -2,17 +2,18 @@
 use Rattle.proof_machines.proofs.unit.Words.{◌≡◌, ℕ, suc, zero, true, false, Option, Some, None, List, [], ◌∷◌, ◌++◌, map, length, take, drop, refl, sym, ap}
 use Rattle.proof_machines.proofs.unit.Words.{◌∙◌, append-nil, take-append-drop, if◌then◌else◌, ◌==◌, option_to_list, nat_le, same_unit, is_nil, Piece}
 use Rattle.proof_machines.proofs.unit.Words.{ArePiecesOf, records, closes, first, nil_left, nil_right, first_of_one, Unit, by_if, split}
-use Rattle.proof_machines.proofs.unit.Real.{Chunks, record_at, RPiece, Msg, M_piece, Frame, see, view}
+use Rattle.std.specs.List.{cons_option, filter_map, flat_map}
+use Rattle.std.proofs.lemmas.List.Elements.{filter_map-append}
+use Rattle.proof_machines.proofs.unit.UnitPieces.{cons_option_is}
+use Rattle.proof_machines.proofs.unit.Real.{Chunks, record_at, RPiece, Msg, M_piece, Frame, where_true, see, view}
 
 -- all records of a unit in chunks
 abbrev pub all_at : {R : Type 0} → Unit → Chunks R → List R
-all_at u [] = []
-all_at u (c ∷ cs) = if same_unit u c.0 then c.1 ∷ all_at u cs else all_at u cs
+all_at u cs = filter_map (λ c. where_true (same_unit u c.0) c.1) cs
 
 -- lists end to end
 abbrev pub joined_up : {X : Type 0} → List (List X) → List X
-joined_up [] = []
-joined_up (x ∷ xs) = x ++ joined_up xs
+joined_up xss = flat_map (λ xs. xs) xss
 
 -- pieces of these chunks in order, the last of them marked
 abbrev pub marks : {R : Type 0} → ℕ → ℕ → List (Chunks R) → List (RPiece R)
@@ -34,16 +35,10 @@ is_nil-chop zero xs = refl
 is_nil-chop (suc n) xs =
     elim (nat_le (length xs) 64) as (λ b. is_nil (if b then xs ∷ [] else take 64 xs ∷ chop n (drop 64 xs)) ≡ false) [ true ↦ refl | false ↦ refl ]
 
-pub all_at-append : {R : Type 0} (u : Unit) (x y : Chunks R) → all_at u (x ++ y) ≡ all_at u x ++ all_at u y
-all_at-append u [] y = refl
-all_at-append u (c ∷ x) y =
-    split (same_unit u c.0) (λ b. (if b then c.1 ∷ all_at u (x ++ y) else all_at u (x ++ y)) ≡ (if b then c.1 ∷ all_at u x else all_at u x) ++ all_at u y)
-    (λ _. ap (λ z. c.1 ∷ z) (all_at-append u x y)) (λ _. all_at-append u x y)
-
 pub record_first : {R : Type 0} (u : Unit) (x : Chunks R) → record_at u x ≡ first (all_at u x)
 record_first u [] = refl
 record_first u (c ∷ x) =
-    split (same_unit u c.0) (λ b. (if b then Some c.1 else record_at u x) ≡ first (if b then c.1 ∷ all_at u x else all_at u x)) (λ _. refl)
+    split (same_unit u c.0) (λ b. (if b then Some c.1 else record_at u x) ≡ first (cons_option (where_true b c.1) (all_at u x))) (λ _. refl)
     (λ _. record_first u x)
 
 -- the parts of a list of at most one are such lists
@@ -55,21 +50,17 @@ halves (a ∷ x) y (Some r) e =
     let none : x ++ y ≡ [] = cc in
     (Some a, None, ap (λ z. a ∷ z) (nil_left x y none), nil_right x y none)
 
-list_of_own : {R : Type 0} (o : Option R) (xs : List R) → elim o as (λ _. List R) [ None ↦ xs | Some r ↦ r ∷ xs ] ≡ option_to_list o ++ xs
-list_of_own None xs = refl
-list_of_own (Some r) xs = refl
-
 all_records : {R : Type 0} (v : Frame) (total newest : ℕ) (cs : List (Chunks R)) (o : Option R) → all_at v.unit (joined_up cs) ≡ option_to_list o
     → records (map (see v) (marks total newest cs)) ≡ option_to_list o
 all_records v total newest [] o e = e
 all_records v total newest (c ∷ cs) o e =
-    let parts = halves (all_at v.unit c) (all_at v.unit (joined_up cs)) o (sym (all_at-append v.unit c (joined_up cs)) ∙ e) in
+    let parts = halves (all_at v.unit c) (all_at v.unit (joined_up cs)) o (sym (filter_map-append _ c (joined_up cs)) ∙ e) in
     let own : record_at v.unit c ≡ parts.0 = record_first v.unit c ∙ ap first parts.2 ∙ first_of_one parts.0 in
-    list_of_own (record_at v.unit c) (records (map (see v) (marks total newest cs)))
+    cons_option_is (record_at v.unit c) (records (map (see v) (marks total newest cs)))
     ∙ ap (λ z. option_to_list z ++ records (map (see v) (marks total newest cs))) own
     ∙ ap (λ z. z ++ records (map (see v) (marks total newest cs))) (sym parts.2)
     ∙ ap (λ z. all_at v.unit c ++ z) (all_records v total newest cs parts.1 parts.3 ∙ sym parts.3)
-    ∙ sym (all_at-append v.unit c (joined_up cs)) ∙ e
+    ∙ sym (filter_map-append _ c (joined_up cs)) ∙ e
 
 all_closes : {R : Type 0} (v : Frame) (total newest : ℕ) (c : Chunks R) (cs : List (Chunks R)) → closes (map (see v) (marks total newest (c ∷ cs))) ≡ true
 all_closes v total newest c [] = refl

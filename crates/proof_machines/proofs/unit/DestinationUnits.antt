@@ -1,28 +1,26 @@
 -- Each step for a unit that the destination owns already, while a move takes it: its packets stay in order, also where they are
 -- held, its record stays there.
+use Rattle.proof_machines.proofs.unit.Lists.{cons_option_nil, never_true}
 use Rattle.proof_machines.proofs.unit.Words.{◌≡◌, ℕ, Bool, true, false, Option, Some, None, List, [], ◌∷◌, ◌++◌, map, refl, sym, ap, ◌∙◌, append_assoc}
 use Rattle.proof_machines.proofs.unit.Words.{append-nil, option_to_list, Answer, At_a, At_b, At_c, Ran, on, Steps, after, Part, Free, Drops, Buffers, Item}
 use Rattle.proof_machines.proofs.unit.Words.{Carry, Pass, Fence, Enable, Put, Forward, Fence_to, Phase, Idle, State, MachineStep, Begin, Arrive, Take_sa}
 use Rattle.proof_machines.proofs.unit.Words.{Take_sb, Take_sc, Take_ac, Take_bc, Take_ca, Take_cb, Take_cs, moved, begun, put, put_b, switch_does, Over, firsts}
-use Rattle.proof_machines.proofs.unit.Words.{firsts-append, firsts-on, runs-append, Stage, At_rest, shape, all_of, Allowed, Placed, arrived_by, still, one_more}
-use Rattle.proof_machines.proofs.unit.Path.{carries, carries-append}
+use Rattle.proof_machines.proofs.unit.Words.{map-append, firsts-on, Stage, At_rest, shape, all_of, Allowed, Placed, arrived_by, still, one_more}
+use Rattle.std.specs.List.{filter, list_all}
+use Rattle.std.specs.Prelude.{is_none}
+use Rattle.std.proofs.lemmas.List.Sums.{fold-append}
+use Rattle.std.proofs.lemmas.List.Elements.{filter-append, filter_map-append}
+use Rattle.proof_machines.proofs.unit.Path.{carry_of, carries}
 use Rattle.proof_machines.proofs.unit.Kept.{records_on, lives, on_way}
-use Rattle.proof_machines.proofs.unit.Bare.{bare_facts, stays_bare, to_dest, fences, not_drops}
+use Rattle.proof_machines.proofs.unit.Bare.{bare_facts, stays_bare, to_dest, is_fence, not_drops}
 use Rattle.proof_machines.proofs.unit.Steps.{goes_on}
 
 -- a link without its plain packets
 abbrev pub strip : {R : Type 0} → List (Item R) → List (Item R)
-strip [] = []
-strip (Carry p ∷ z) = strip z
-strip (x ∷ z) = x ∷ strip z
+strip z = filter (λ x. is_none (carry_of x)) z
 
 abbrev pub beside : {R : Type 0} → Steps R → State R → List (Item R) → List ℕ → List Ran → State R
 beside F u z h d = record u { sb = z; b = record u.b { held = h; live = after F d }; target = At_b; done = d ++ u.done }
-
-strip-append : {R : Type 0} (z y : List (Item R)) → strip (z ++ y) ≡ strip z ++ strip y
-strip-append [] y = refl
-strip-append (Carry p ∷ z) y = strip-append z y
-strip-append (x ∷ z) y = ap (λ s. x ∷ s) (strip-append z y)
 
 begun_beside : {R : Type 0} (F : Steps R) (u : State R) (z : List (Item R)) (h : List ℕ) (d : List Ran) (keep : Bool) (p : Phase R)
     → begun keep p (beside F u z h d) ≡ beside F (begun keep p u) z h d
@@ -83,15 +81,15 @@ switch_beside : {R : Type 0} (F : Steps R) (u : State R) (z : List (Item R)) (h 
     → SendsBeside F u (λ v. switch_does v x) (record { link = z; held = h; done = d })
 switch_beside F u z h d (Forward At_b p) = record {
   z' = z ++ Pass p ∷ [];
-  strips = λ e. strip-append z (Pass p ∷ []) ∙ ap (λ s. s ++ Pass p ∷ []) e;
-  stays = carries-append z (Pass p ∷ []) ∙ append-nil (carries z);
+  strips = λ e. filter-append _ z (Pass p ∷ []) ∙ ap (λ s. s ++ Pass p ∷ []) e;
+  stays = filter_map-append _ z (Pass p ∷ []) ∙ append-nil (carries z);
   is = refl;
   rule = refl;
 }
 switch_beside F u z h d (Fence_to At_b) = record {
   z' = z ++ Fence ∷ [];
-  strips = λ e. strip-append z (Fence ∷ []) ∙ ap (λ s. s ++ Fence ∷ []) e;
-  stays = carries-append z (Fence ∷ []) ∙ append-nil (carries z);
+  strips = λ e. filter-append _ z (Fence ∷ []) ∙ ap (λ s. s ++ Fence ∷ []) e;
+  stays = filter_map-append _ z (Fence ∷ []) ∙ append-nil (carries z);
   is = refl;
   rule = refl;
 }
@@ -109,10 +107,6 @@ cs_beside F u z h d = elim u.cs as (λ xs. SendsBeside F (record u { cs = xs }) 
 ]
 
 -- what B takes from the controller: its rule, or a piece without the unit
-nil_own : {R : Type 0} (o : Option R) (xs : List R) → option_to_list o ++ xs ≡ [] → o ≡ None
-nil_own None xs e = refl
-nil_own (Some r) xs e = cc
-
 -- a step of B that takes from the controller: the link to B stays
 pub record TakesBeside {R : Type 0} (F : Steps R) (u : State R) (step : State R → State R) (own : OwnPackets R) : Type 0 where
   pub is : step (with_own F u own) ≡ with_own F (step u) own
@@ -126,12 +120,13 @@ put_beside F u z h d p true None o = record { is = rw o (simp append_assoc); lin
 put_beside F u z h d p true (Some why) o = record { is = simp append_assoc; link = refl; rule = λ e. e }
 
 cb_beside : {R : Type 0} (F : Steps R) (u : State R) (z : List (Item R)) (h : List ℕ) (d : List Ran) (refuse : Option Answer) (xs : List (Item R))
-    → to_dest xs ≡ true → records_on xs ≡ []
+    → list_all to_dest xs ≡ true → records_on xs ≡ []
     → TakesBeside F (record u { cb = xs }) (λ v. moved F v (Take_cb refuse)) (record { link = z; held = h; done = d })
 cb_beside F u z h d refuse [] k r = record { is = refl; link = refl; rule = λ e. e }
 cb_beside F u z h d refuse (Enable Buffers ∷ xs) k r = record { is = simp append_assoc; link = refl; rule = λ e. cc }
 cb_beside F u z h d refuse (Put p first ∷ xs) k r =
-    let t = put_beside F (record u { cb = xs }) z h d p first refuse (nil_own p.own (records_on xs) r) in record { is = t.is; link = t.link; rule = t.rule }
+    let t = put_beside F (record u { cb = xs }) z h d p first refuse (cons_option_nil p.own (records_on xs) r).0 in
+    record { is = t.is; link = t.link; rule = t.rule }
 cb_beside F u z h d refuse (x ∷ xs) k r = cc
 
 -- a stage of the message, and the unit's own packets: `z` is the link to B with them
@@ -227,7 +222,7 @@ by_controller F s refuse =
 -- a plain packet that B takes
 packet_free : {R : Type 0} (F : Steps R) (u : State R) (p : ℕ) (z : List (Item R)) (h : List ℕ) (d : List Ran) → u.b.rule ≡ Free → u.done ≡ []
     → moved F (beside F u (Carry p ∷ z) h d) Take_sb ≡ beside F u z h (d ++ (p, At_b) ∷ [])
-packet_free F u p z h d r n = rw (r, n) (simp (runs-append, append-nil))
+packet_free F u p z h d r n = rw (r, n) (simp (map-append, fold-append, append-nil))
 
 packet_held : {R : Type 0} (F : Steps R) (u : State R) (p : ℕ) (z : List (Item R)) (h : List ℕ) (d : List Ran) → u.b.rule ≡ Buffers
     → moved F (beside F u (Carry p ∷ z) h d) Take_sb ≡ beside F u z (h ++ p ∷ []) d
@@ -236,7 +231,7 @@ packet_held F u p z h d r = rw r (simp append-nil)
 -- the fence
 fence_taken : {R : Type 0} (F : Steps R) (u : State R) (xs z : List (Item R)) (h : List ℕ) (d : List Ran) → u.sb ≡ Fence ∷ xs → u.b.held ≡ [] → u.done ≡ []
     → (moved F (beside F u (Fence ∷ z) h d) Take_sb ≡ beside F (moved F u Take_sb) z [] (d ++ map (on At_b) h)) × ((moved F u Take_sb).sb ≡ xs)
-fence_taken F u xs z h d e k n = (rw (e, k, n) (simp (runs-append, append-nil)), rw e refl)
+fence_taken F u xs z h d e k n = (rw (e, k, n) (simp (map-append, firsts-on, fold-append, append-nil)), rw e refl)
 
 no_free : Buffers ≡ Free → ⊥
 no_free e = cc
@@ -255,7 +250,7 @@ takes_packet F s p z e =
           let none = s.free r in (
             record { base = s.base; bare = s.bare; z = z; h = s.h; d = s.d ++ (p, At_b) ∷ []; strips = strips; free = s.free },
             rw e (packet_free F u p z s.h s.d r f.done),
-            rw (e, none) (simp (firsts-append, append_assoc, append-nil)),
+            rw (e, none) (simp (map-append, append_assoc, append-nil)),
             one_more At_b s.d p,
           )
       | Buffers ↦ λ r. (
@@ -284,7 +279,7 @@ takes_fence F s z e =
         free = λ _. refl;
       },
       rw e (t.0 ∙ ap (λ v. beside F v z [] (s.d ++ map (on At_b) s.h)) g.1),
-      rw e (simp (firsts-append, firsts-on, append_assoc, append-nil)),
+      rw e (simp (map-append, firsts-on, append_assoc, append-nil)),
       (s.h, refl),
     )
 
@@ -297,17 +292,11 @@ nothing_there : {R : Type 0} (F : Steps R) (s : DestinationUnit F) → s.z ≡ [
 nothing_there F s e = (s, quiet_link F (shape F s.base) s.z s.h s.d e, sym (append-nil (all_beside s)), still At_b s.d)
 
 -- no other item stands there
-false_true : false ≡ true → ⊥
-false_true e = cc
-
-strange : {R : Type 0} (xs ys : List (Item R)) → ys ≡ xs → fences xs ≡ true → fences ys ≡ true
-strange xs ys e f = ap fences e ∙ f
-
 by_link : {R : Type 0} (F : Steps R) (s : DestinationUnit F) (z : List (Item R)) → s.z ≡ z → GoesOnBeside F s Take_sb
 by_link F s [] e = nothing_there F s e
 by_link F s (Carry p ∷ z) e = takes_packet F s p z e
 by_link F s (Fence ∷ z) e = takes_fence F s z e
-by_link F s (x ∷ z) e = absurd (false_true (strange (shape F s.base).sb (strip (x ∷ z)) (rw e at s.strips) (bare_facts F s.base s.bare).sb_is))
+by_link F s (x ∷ z) e = never_true (ap (list_all is_fence) (rw e at s.strips) ∙ (bare_facts F s.base s.bare).sb_is)
 
 pub beside_goes_on : {R : Type 0} (F : Steps R) (s : DestinationUnit F) (m : MachineStep R) → Allowed (shape F s.base) m → GoesOnBeside F s m
 beside_goes_on F s (Arrive p) a = (
@@ -317,11 +306,11 @@ beside_goes_on F s (Arrive p) a = (
     z = s.z ++ Carry p ∷ [];
     h = s.h;
     d = s.d;
-    strips = strip-append s.z (Carry p ∷ []) ∙ append-nil (strip s.z) ∙ s.strips;
+    strips = filter-append _ s.z (Carry p ∷ []) ∙ append-nil (strip s.z) ∙ s.strips;
     free = s.free;
   },
   refl,
-  simp (carries-append, append_assoc),
+  simp (filter_map-append, append_assoc),
   still At_b s.d,
 )
 beside_goes_on F s Take_sb a = by_link F s s.z refl

@@ -1,15 +1,16 @@
 -- Each step from a stage before the move streams leads to a stage, with the unit's packets in order.
 use Rattle.std.proofs.Common.{ℕ, Bool, List, [], ◌∷◌, ◌++◌, map, refl, sym, append_assoc, append-nil}
 use Rattle.std.proofs.lemmas.List.{map-append}
+use Rattle.std.proofs.lemmas.List.Elements.{filter_map-append}
+use Rattle.std.proofs.lemmas.List.Sums.{fold-append}
 use Rattle.proof_machines.proofs.unit.Machine.{Where, At_a, Ran, Steps, after, Part, MachineStep, Begin, Arrive, Take_sa, Take_ac, Take_ca}
-use Rattle.proof_machines.proofs.unit.Lists.{firsts-append, firsts-on, runs-append, passes-append, plains-append, events-append, Ev, Pc, events-sent}
-use Rattle.proof_machines.proofs.unit.Lists.{pieces-sent, named-sent, shown-sent}
+use Rattle.proof_machines.proofs.unit.Lists.{firsts-on, Ev, Pc, events-sent, pieces-sent, named-sent, shown-sent}
 use Rattle.proof_machines.proofs.unit.UnitPieces.{ArePiecesOf, pick_all, not_nil}
 use Rattle.proof_machines.proofs.unit.Stages.{At_rest, Begun, Frozen, Stream_goes, Streams, Flows, Is_shut, body, shape, Allowed, GoesOn, Placed}
 
-pub ruleset shapes = (map-append, append_assoc, append-nil, runs-append)
+pub ruleset shapes = (map-append, append_assoc, append-nil, firsts-on, fold-append)
 
-pub ruleset paths = (firsts-append, firsts-on, append_assoc, append-nil, passes-append, plains-append, events-append)
+pub ruleset paths = (map-append, firsts-on, append_assoc, append-nil, filter_map-append)
 
 pub still : (w : Where) (d : List Ran) → Placed w d d
 still w d = ([], sym (append-nil d))

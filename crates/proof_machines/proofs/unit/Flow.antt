@@ -1,11 +1,12 @@
 -- Steps while a move streams, whatever the door: a packet comes, is handed out or stored, a piece comes, a Delete is taken. Each
 -- leads to a stage, in order.
 use Rattle.proof_machines.proofs.unit.Words.{◌≡◌, ℕ, Bool, Option, Some, None, List, [], ◌∷◌, ◌++◌, refl, sym, append_assoc, append-nil, if◌then◌else◌, is_some}
-use Rattle.proof_machines.proofs.unit.Words.{map-append, At_a, Ran, Steps, after, Part, pick, or_own, Arrive, Take_sa, Take_ac, Take_ca, firsts-append}
-use Rattle.proof_machines.proofs.unit.Words.{events-append, pieces-append, named-append, Mix, Ev, Pc, Dd, parts_in, named, ArePiecesOf, refit, others, last_is}
+use Rattle.proof_machines.proofs.unit.Words.{map-append, At_a, Ran, Steps, after, Part, pick, or_own, Arrive, Take_sa, Take_ac, Take_ca}
+use Rattle.std.proofs.lemmas.List.Elements.{filter_map-append}
+use Rattle.proof_machines.proofs.unit.Words.{Mix, Ev, Pc, Dd, parts_in, named, ArePiecesOf, refit, others, last_is}
 use Rattle.proof_machines.proofs.unit.Words.{Streams, Doorway, Flows, reflow, front, body, GoesOn, shapes, paths, still}
 
-ruleset mixed = (map-append, append_assoc, append-nil, events-append, pieces-append, named-append)
+ruleset mixed = (map-append, append_assoc, append-nil, filter_map-append)
 
 -- the pieces stay in order
 body_event : {R : Type 0} (y : List (Mix R)) (q : List (Part R)) (p : ℕ) → body y q ≡ body (y ++ Ev p ∷ []) q
@@ -44,7 +45,7 @@ module _ {R : Type 0} (F : Steps R) (d : List Ran) (f : List ℕ) where
   drops_on y q (p ∷ l) k s w = (
     Streams d f (y ++ Ev p ∷ []) q l k s (reflow (body_event y q p) w),
     simp mixed,
-    simp (firsts-append, append_assoc, append-nil, events-append),
+    simp mixed,
     still At_a d,
   )
 
@@ -55,7 +56,7 @@ module _ {R : Type 0} (F : Steps R) (d : List Ran) (f : List ℕ) where
       let gone = pick_deleted (front s ++ named y) h (q ++ parts_in y) (after F d) (refit (source (front s) y h q) w.fits) in (
         Streams d f (y ++ Dd h ∷ []) q l k s (reflow (body_deleted y q h) w),
         rw gone (simp mixed),
-        simp (firsts-append, append_assoc, append-nil, events-append),
+        simp mixed,
         still At_a d,
       )
 

@@ -1,9 +1,11 @@
 -- Where an instance processes packets of the unit in a step of the machine, its record is that of the fold of all that was done before.
 use Rattle.proof_machines.proofs.unit.Words.{◌≡◌, ◌≢◌, ℕ, Bool, true, false, Option, Some, None, List, [], ◌∷◌, ◌++◌, map, refl, sym, ap, ◌∙◌, subst}
-use Rattle.proof_machines.proofs.unit.Words.{append-nil, if◌then◌else◌, Answer, Where, At_a, At_b, Steps, after, Part, Inst, inst_does, put, Item, Carry, Pass}
+use Rattle.proof_machines.proofs.unit.Words.{append-nil, Answer, Where, At_a, At_b, Steps, after, Part, Inst, inst_does, put, Item, Carry, Pass}
 use Rattle.proof_machines.proofs.unit.Words.{Fence, Put, delete, next, State, Take_sa, Take_sb, put_a, put_b, moved, nil_right, drops, Stage, At_rest, Streams}
 use Rattle.proof_machines.proofs.unit.Words.{All_put, Hold_goes, Held, Laying, Turned, Turned_loose, Restore_goes, Doorway, Is_wide, puts_of, shape, all_of}
 use Rattle.proof_machines.proofs.unit.Words.{cons_nil, MachineStep, Allowed, arrived_by, Ran}
+use Rattle.std.specs.List.{list_all}
+use Rattle.proof_machines.proofs.unit.Lists.{head_passes, all_pass}
 use Rattle.proof_machines.proofs.unit.Bare.{bare_facts, stays_bare}
 use Rattle.proof_machines.proofs.unit.Steps.{goes_on}
 use Rattle.proof_machines.proofs.unit.Seats.{UnitSeat, Covered, Is_beside, Is_away, seat_shape}
@@ -15,44 +17,28 @@ still_item (Pass p) = false
 still_item Fence = false
 still_item it = true
 
-abbrev all_still : {R : Type 0} → List (Item R) → Bool
-all_still [] = true
-all_still (x ∷ xs) = if still_item x then all_still xs else false
-
-still_head : {R : Type 0} (it : Item R) (v xs : List (Item R)) → xs ≡ it ∷ v → all_still xs ≡ true → still_item it ≡ true
-still_head it v xs e ok =
-    elim (still_item it) as (λ b. (if b then all_still v else false) ≡ true → b ≡ true) [ true ↦ λ _. refl | false ↦ λ n. n ] (ap all_still (sym e) ∙ ok)
-
-still_deletes : {R : Type 0} (q : List (Part R)) → all_still (map delete q) ≡ true
-still_deletes [] = refl
-still_deletes (h ∷ q) = still_deletes q
-
-still_nexts : {R : Type 0} (q : List (Part R)) → all_still (map next q) ≡ true
-still_nexts [] = refl
-still_nexts (h ∷ q) = still_nexts q
-
 -- the controller sends none that isn't so
-ca_stage : {R : Type 0} (F : Steps R) (s : Stage F) → all_still (shape F s).ca ≡ true
-ca_stage F (Streams d f y q l k s w) = still_deletes q
+ca_stage : {R : Type 0} (F : Steps R) (s : Stage F) → list_all still_item (shape F s).ca ≡ true
+ca_stage F (Streams d f y q l k s w) = all_pass still_item delete (λ h. refl) q
 ca_stage F s = refl
 
-puts_still : {R : Type 0} (s : Doorway R) → all_still (puts_of s) ≡ true
-puts_still (Is_wide g w) = still_nexts w
+puts_still : {R : Type 0} (s : Doorway R) → list_all still_item (puts_of s) ≡ true
+puts_still (Is_wide g w) = all_pass still_item next (λ h. refl) w
 puts_still s = refl
 
-cb_stage : {R : Type 0} (F : Steps R) (s : Stage F) → all_still (shape F s).cb ≡ true
+cb_stage : {R : Type 0} (F : Steps R) (s : Stage F) → list_all still_item (shape F s).cb ≡ true
 cb_stage F (Streams d f y q l k s w) = puts_still s
 cb_stage F s = refl
 
 pub still_ca : {R : Type 0} (F : Steps R) (s : UnitSeat F) (it : Item R) (v : List (Item R)) → (seat_shape F s).ca ≡ it ∷ v → still_item it ≡ true
-still_ca F (Covered s) it v e = still_head it v (shape F s).ca e (ca_stage F s)
-still_ca F (Is_beside s) it v e = still_head it v (shape F s.base).ca e (ca_stage F s.base)
-still_ca F (Is_away s) it v e = still_head it v (shape F s.base).ca e (ca_stage F s.base)
+still_ca F (Covered s) it v e = head_passes still_item it v (shape F s).ca e (ca_stage F s)
+still_ca F (Is_beside s) it v e = head_passes still_item it v (shape F s.base).ca e (ca_stage F s.base)
+still_ca F (Is_away s) it v e = head_passes still_item it v (shape F s.base).ca e (ca_stage F s.base)
 
 pub still_cb : {R : Type 0} (F : Steps R) (s : UnitSeat F) (it : Item R) (v : List (Item R)) → (seat_shape F s).cb ≡ it ∷ v → still_item it ≡ true
-still_cb F (Covered s) it v e = still_head it v (shape F s).cb e (cb_stage F s)
-still_cb F (Is_beside s) it v e = still_head it v (shape F s.base).cb e (cb_stage F s.base)
-still_cb F (Is_away s) it v e = still_head it v (shape F s.base).cb e (cb_stage F s.base)
+still_cb F (Covered s) it v e = head_passes still_item it v (shape F s).cb e (cb_stage F s)
+still_cb F (Is_beside s) it v e = head_passes still_item it v (shape F s.base).cb e (cb_stage F s.base)
+still_cb F (Is_away s) it v e = head_passes still_item it v (shape F s.base).cb e (cb_stage F s.base)
 
 put_still : {R : Type 0} (F : Steps R) (first : Bool) (refuse : Option Answer) (i : Inst R) (h : Part R) → (put F first refuse i h).ran ≡ []
 put_still F false refuse i h = refl

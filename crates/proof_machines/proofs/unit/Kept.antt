@@ -2,12 +2,15 @@
 -- source.
 use Rattle.proof_machines.proofs.unit.Words.{◌≡◌, ℕ, Bool, Option, Some, None, List, [], ◌∷◌, ◌++◌, map, refl, sym, ap, ◌∙◌, append_assoc, append-nil}
 use Rattle.proof_machines.proofs.unit.Words.{option_to_list, Ran, Steps, after, Part, pick, Item, Put, Restore, Event, Piece, Put_no, Phase, next, delete}
-use Rattle.proof_machines.proofs.unit.Words.{State, Mix, Ev, Pc, Dd, shown, parts_in, named, records, records-append, first, pick_first, nil_left, nil_right}
+use Rattle.proof_machines.proofs.unit.Words.{State, Mix, Ev, Pc, Dd, shown, parts_in, named, records, first, pick_first}
 use Rattle.proof_machines.proofs.unit.Words.{Stage, At_rest, Begun, Frozen, Stream_goes, Streams, All_put, Hold_goes, Held, Laying, Turned, Fenced_a, Ending_b}
 use Rattle.proof_machines.proofs.unit.Words.{Fence_b, Turned_loose, Fenced_loose, Ending_loose, Fence_loose, Fenced_b, Moved, Restore_goes, Restored_comes}
 use Rattle.proof_machines.proofs.unit.Words.{Turn_goes, Turned_back, Returned, Fence_a, Fenced_back, Undone, Doorway, Is_shut, Is_asked, Is_agreed, Is_denied}
 use Rattle.proof_machines.proofs.unit.Words.{Is_wide, Is_refused, Flows, front, free_of, puts_of, answers_of, live_of, body, shape}
 use Rattle.proof_machines.proofs.unit.Machine.{Streaming}
+use Rattle.proof_machines.proofs.unit.Lists.{picked_none}
+use Rattle.std.specs.List.{filter_map, cons_option}
+use Rattle.std.proofs.lemmas.List.Elements.{filter_map-append}
 
 -- the record in a message
 abbrev pub record_in : {R : Type 0} → Item R → Option R
@@ -18,8 +21,7 @@ record_in (Put_no why o) = o
 record_in item = None
 
 abbrev pub records_on : {R : Type 0} → List (Item R) → List R
-records_on [] = []
-records_on (x ∷ xs) = option_to_list (record_in x) ++ records_on xs
+records_on xs = filter_map record_in xs
 
 abbrev pub frozen_in : {R : Type 0} → Phase R → List R
 frozen_in (Streaming fz fr came door) = records fz
@@ -45,64 +47,37 @@ pub data Kept {R : Type 0} (o at_a : Option R) (live way : List R) : Type 0 wher
 abbrev pub IsKept : {R : Type 0} → Steps R → State R → Type 0
 IsKept F u = Kept (after F u.done) u.a.live (lives u) (on_way u)
 
-pub records_on-append : {R : Type 0} (xs ys : List (Item R)) → records_on (xs ++ ys) ≡ records_on xs ++ records_on ys
-records_on-append [] ys = refl
-records_on-append (x ∷ xs) ys = ap (λ z. option_to_list (record_in x) ++ z) (records_on-append xs ys)
-    ∙ sym (append_assoc (option_to_list (record_in x)) (records_on xs) (records_on ys))
-
 pub none_on_events : (R : Type 0) (l : List ℕ) → records_on (map (λ p. let x : Item R = Event p in x) l) ≡ []
-none_on_events R [] = refl
-none_on_events R (p ∷ l) = none_on_events R l
-
-pub records_one : {R : Type 0} (h : Part R) (t : List (Part R)) → records (h ∷ t) ≡ option_to_list h.own ++ records t
-records_one {R = R} h t = elim h.own as (λ o. elim o as (λ _. List R) [ None ↦ records t | Some r ↦ r ∷ records t ] ≡ option_to_list o ++ records t)
-    [ None ↦ refl | Some r ↦ refl ]
+none_on_events R l = picked_none _ _ (λ p. refl) l
 
 on_pieces : {R : Type 0} (y : List (Mix R)) → records_on (map shown y) ≡ records (parts_in y)
 on_pieces [] = refl
 on_pieces (Ev p ∷ y) = on_pieces y
-on_pieces (Pc h ∷ y) = ap (λ z. option_to_list h.own ++ z) (on_pieces y) ∙ sym (records_one h (parts_in y))
+on_pieces (Pc h ∷ y) = ap (cons_option h.own) (on_pieces y)
 on_pieces (Dd h ∷ y) = on_pieces y
 
 on_puts : {R : Type 0} (w : List (Part R)) → records_on (map next w) ≡ records w
 on_puts [] = refl
-on_puts (h ∷ w) = ap (λ z. option_to_list h.own ++ z) (on_puts w) ∙ sym (records_one h w)
+on_puts (h ∷ w) = ap (cons_option h.own) (on_puts w)
 
 none_on_deletes : {R : Type 0} (q : List (Part R)) → records_on (map delete q) ≡ []
-none_on_deletes [] = refl
-none_on_deletes (h ∷ q) = none_on_deletes q
+none_on_deletes q = picked_none _ delete (λ h. refl) q
+
+-- lists that have nothing together
+none_of : {X : Type 0} (w n q p : List X) → w ++ (n ++ (q ++ p)) ≡ [] → (w ≡ []) × (n ≡ []) × (q ≡ []) × (p ≡ [])
+none_of [] [] [] [] e = (refl, refl, refl, refl)
+none_of w n q p e = let never : ⊥ = cc in absurd never
 
 -- one record in five places: put, on the way behind the door, Deleted, to be deleted, on the link
 spread : {R : Type 0} (o : Option R) (g w n q p : List R) → g ++ (w ++ (n ++ (q ++ p))) ≡ option_to_list o
     → Kept o (first (q ++ p)) (option_to_list (first (q ++ p)) ++ option_to_list (first g)) (p ++ (n ++ (q ++ w)))
 spread None [] [] [] [] [] e = Nowhere refl refl refl
-spread None [] [] [] [] (r ∷ p) e = let never : ⊥ = cc in absurd never
-spread None [] [] [] (r ∷ q) p e = let never : ⊥ = cc in absurd never
-spread None [] [] (r ∷ n) q p e = let never : ⊥ = cc in absurd never
-spread None [] (r ∷ w) n q p e = let never : ⊥ = cc in absurd never
-spread None (r ∷ g) w n q p e = let never : ⊥ = cc in absurd never
-spread (Some s) [] [] [] [] [] e = let never : ⊥ = cc in absurd never
-spread (Some s) [] [] [] [] (r ∷ p) e = let m : p ≡ [] = cc in let is : r ≡ s = cc in rw (m, is) (Twice s refl refl refl refl)
-spread (Some s) [] [] [] (r ∷ q) p e =
-    let both : q ++ p ≡ [] = cc in let is : r ≡ s = cc in
-    let m = nil_left q p both in let k = nil_right q p both in rw (m, k, is) (Twice s refl refl refl refl)
-spread (Some s) [] [] (r ∷ n) q p e =
-    let more : n ++ (q ++ p) ≡ [] = cc in let is : r ≡ s = cc in
-    let both = nil_right n (q ++ p) more in
-    let j = nil_left n (q ++ p) more in let m = nil_left q p both in let k = nil_right q p both in rw (j, m, k, is) (On_way s refl refl refl)
-spread (Some s) [] (r ∷ w) n q p e =
-    let most : w ++ (n ++ (q ++ p)) ≡ [] = cc in let is : r ≡ s = cc in
-    let more = nil_right w (n ++ (q ++ p)) most in
-    let both = nil_right n (q ++ p) more in
-    let i = nil_left w (n ++ (q ++ p)) most in let j = nil_left n (q ++ p) more in let m = nil_left q p both in let k = nil_right q p both in
-    rw (i, j, m, k, is) (On_way s refl refl refl)
-spread (Some s) (r ∷ g) w n q p e =
-    let all : g ++ (w ++ (n ++ (q ++ p))) ≡ [] = cc in let is : r ≡ s = cc in
-    let most = nil_right g (w ++ (n ++ (q ++ p))) all in
-    let more = nil_right w (n ++ (q ++ p)) most in
-    let both = nil_right n (q ++ p) more in
-    let i = nil_left w (n ++ (q ++ p)) most in let j = nil_left n (q ++ p) more in let m = nil_left q p both in let k = nil_right q p both in
-    rw (i, j, m, k, is) (Is_live s refl refl refl)
+spread (Some s) [] [] [] [] (r ∷ []) e = let is : r ≡ s = cc in rw is (Twice s refl refl refl refl)
+spread (Some s) [] [] [] (r ∷ q) p e = let k = none_of [] [] q p cc in let is : r ≡ s = cc in rw (k.2, k.3, is) (Twice s refl refl refl refl)
+spread (Some s) [] [] (r ∷ n) q p e = let k = none_of [] n q p cc in let is : r ≡ s = cc in rw (k.1, k.2, k.3, is) (On_way s refl refl refl)
+spread (Some s) [] (r ∷ w) n q p e = let k = none_of w n q p cc in let is : r ≡ s = cc in rw (k.0, k.1, k.2, k.3, is) (On_way s refl refl refl)
+spread (Some s) (r ∷ []) w n q p e = let k = none_of w n q p cc in let is : r ≡ s = cc in rw (k.0, k.1, k.2, k.3, is) (Is_live s refl refl refl)
+spread o g w n q p e = let never : ⊥ = cc in absurd never
 
 -- what is put, and what is on its way behind the door
 abbrev put_records : {R : Type 0} → Doorway R → List R
@@ -119,8 +94,8 @@ way_records (Is_wide g w) = records w
 way_records (Is_refused v why) = records v
 
 front_records : {R : Type 0} (s : Doorway R) → records (front s) ≡ put_records s ++ way_records s
-front_records (Is_agreed h v) = records-append (h ∷ []) v
-front_records (Is_wide g w) = records-append g w
+front_records (Is_agreed h v) = filter_map-append (λ (p : Part _). p.own) (h ∷ []) v
+front_records (Is_wide g w) = filter_map-append _ g w
 front_records x = refl
 
 live_first : {R : Type 0} (s : Doorway R) → live_of s ≡ first (put_records s)
@@ -131,9 +106,9 @@ live_first x = refl
 way_is : {R : Type 0} (s : Doorway R) (q : List (Part R))
     → records_on (answers_of s) ++ (records_on (puts_of s) ++ (records (free_of s) ++ records_on (map delete q))) ≡ way_records s
 way_is Is_shut q = none_on_deletes q
-way_is (Is_asked h v) q = rw (none_on_deletes q, append-nil (records v), append-nil (option_to_list h.own)) (sym (records_one h v))
+way_is (Is_asked h v) q = rw (none_on_deletes q, append-nil (records v)) (sym (filter_map-append (λ (p : Part _). p.own) (h ∷ []) v))
 way_is (Is_agreed h v) q = rw (none_on_deletes q) (append-nil (records v))
-way_is (Is_denied h v why) q = rw (none_on_deletes q, append-nil (records v), append-nil (option_to_list h.own)) (sym (records_one h v))
+way_is (Is_denied h v why) q = rw (none_on_deletes q, append-nil (records v)) (sym (filter_map-append (λ (p : Part _). p.own) (h ∷ []) v))
 way_is (Is_wide g w) q = rw (none_on_deletes q, on_puts w) (append-nil (records w))
 way_is (Is_refused v why) q = rw (none_on_deletes q) (append-nil (records v))
 
@@ -144,15 +119,16 @@ streams_kept F d f y q l k s w =
     let whole : put_records s ++ (way_records s ++ (records (named y) ++ (records q ++ records (parts_in y)))) ≡ option_to_list (after F d) =
     sym (append_assoc (put_records s) (way_records s) (records (named y) ++ (records q ++ records (parts_in y))))
     ∙ ap (λ z. z ++ (records (named y) ++ (records q ++ records (parts_in y)))) (sym (front_records s))
-    ∙ ap (λ z. records (front s) ++ (records (named y) ++ z)) (sym (records-append q (parts_in y)))
-    ∙ ap (λ z. records (front s) ++ z) (sym (records-append (named y) (q ++ parts_in y)))
-    ∙ sym (records-append (front s) (body y q)) ∙ w.fits.one in
+    ∙ ap (λ z. records (front s) ++ (records (named y) ++ z)) (sym (filter_map-append _ q (parts_in y)))
+    ∙ ap (λ z. records (front s) ++ z) (sym (filter_map-append _ (named y) (q ++ parts_in y)))
+    ∙ sym (filter_map-append _ (front s) (body y q)) ∙ w.fits.one in
     let placed = spread (after F d) (put_records s) (way_records s) (records (named y)) (records q) (records (parts_in y)) whole in
-    let source : pick (q ++ parts_in y) ≡ first (records q ++ records (parts_in y)) = pick_first (q ++ parts_in y) ∙ ap first (records-append q (parts_in y)) in
+    let source : pick (q ++ parts_in y) ≡ first (records q ++ records (parts_in y)) =
+    pick_first (q ++ parts_in y) ∙ ap first (filter_map-append _ q (parts_in y)) in
     let live = live_first s in
     let way = way_is s q in
     let on_ac = on_pieces y in
-    let frozen = records-append (named y) q in
+    let frozen : records (named y ++ q) ≡ records (named y) ++ records q = filter_map-append _ (named y) q in
     rw (source, live, way, on_ac, frozen, append-nil (option_to_list (first (put_records s))), append_assoc (records (named y)) (records q) (way_records s))
     placed
 
@@ -165,7 +141,7 @@ live_b : {R : Type 0} (o : Option R) → Kept o None (option_to_list o ++ []) []
 live_b None = Nowhere refl refl refl
 live_b (Some r) = Is_live r refl refl refl
 
-restoring : {R : Type 0} (o : Option R) → Kept o None [] (option_to_list o ++ [])
+restoring : {R : Type 0} (o : Option R) → Kept o None [] (cons_option o [])
 restoring None = Nowhere refl refl refl
 restoring (Some r) = On_way r refl refl refl
 
@@ -180,19 +156,19 @@ is_kept {R = R} F (Hold_goes d f e l) = rw (none_on_events R e) (live_b (after F
 is_kept {R = R} F (Held d f e l) = rw (none_on_events R e) (live_b (after F d))
 is_kept {R = R} F (Laying d x f g e l k) = rw (none_on_events R e) (live_b (after F d))
 is_kept {R = R} F (Turned d x f e l h) = rw (none_on_events R e) (live_b (after F d))
-is_kept {R = R} F (Fenced_a d x f e h) = simp (records_on-append, none_on_events) (live_b (after F d))
+is_kept {R = R} F (Fenced_a d x f e h) = simp (filter_map-append, none_on_events) (live_b (after F d))
 is_kept F (Ending_b d x f h) = live_b (after F d)
 is_kept F (Fence_b d x n h) = live_b (after F d)
 is_kept {R = R} F (Turned_loose d x f e l) = rw (none_on_events R e) (live_b (after F d))
-is_kept {R = R} F (Fenced_loose d x f e) = simp (records_on-append, none_on_events) (live_b (after F d))
+is_kept {R = R} F (Fenced_loose d x f e) = simp (filter_map-append, none_on_events) (live_b (after F d))
 is_kept F (Ending_loose d x f) = live_b (after F d)
 is_kept F (Fence_loose d x n) = live_b (after F d)
 is_kept F (Fenced_b d l k) = live_b (after F d)
 is_kept F (Moved d l k) = live_b (after F d)
 is_kept {R = R} F (Restore_goes d f e l k why) = rw (none_on_events R e) (restoring (after F d))
-is_kept {R = R} F (Restored_comes d f e g l k why) = simp (records_on-append, none_on_events) (live_a (after F d))
+is_kept {R = R} F (Restored_comes d f e g l k why) = simp (filter_map-append, none_on_events) (live_a (after F d))
 is_kept {R = R} F (Turn_goes d f e l k why) = rw (none_on_events R e) (live_a (after F d))
-is_kept {R = R} F (Turned_back d f e h l k why) = simp (records_on-append, none_on_events) (live_a (after F d))
+is_kept {R = R} F (Turned_back d f e h l k why) = simp (filter_map-append, none_on_events) (live_a (after F d))
 is_kept F (Returned d x f h k why) = live_a (after F d)
 is_kept F (Fence_a d x n h k why) = live_a (after F d)
 is_kept F (Fenced_back d l k why) = live_a (after F d)

@@ -2,26 +2,16 @@
 -- that it sends.
 use Rattle.proof_machines.proofs.unit.Words.{◌≡◌, ℕ, false, None, Option, List, [], ◌∷◌, ◌++◌, map, refl, sym, ap, ◌∙◌, is_some, is_among, Answer, Streaming}
 use Rattle.proof_machines.proofs.unit.Words.{Said, Nothing, Remove, Ask, Release, Give_back, nil_left, nil_right, Unit}
-pub use Rattle.actor_net.proofs.WeightLaws.{Each, each-append}
+pub use Rattle.proof_machines.proofs.EachLaws.{Each, each-append, each_map, each_both, each_any}
+use Rattle.proof_machines.proofs.EachLaws.{each_made}
 use Rattle.move_op.specs.Table.{Restore, Put}
 use Rattle.proof_machines.proofs.unit.Real.{Chunks, record_at, RPiece, chunks_of, Msg, M_delete, M_put, M_restore, M_piece, M_put_no, M_install, M_fence_to}
 use Rattle.proof_machines.proofs.unit.Real.{RPhase, Op, OperationTurn, r_words, put_to, forward_to, sends_of, r_from_source, r_from_destination}
-use Rattle.proof_machines.proofs.unit.TableRows.{PhaseHas, SaidHas, Hold, Any, any_each, any_door}
+use Rattle.proof_machines.proofs.unit.TableRows.{PhaseHas, SaidHas, Hold, Any, any_door}
 use Rattle.proof_machines.proofs.unit.RealRows.{Brings, BringsBack, from_source_holds, from_destination_holds}
 use Rattle.proof_machines.proofs.unit.Seen.{is_among-units, record_at-append}
-use Rattle.proof_machines.proofs.unit.Cuts.{all_at, all_at-append, record_first, joined_up, marks}
-
-pub each_map : {X : Type 0} {P Q : X → Type 0} → ((x : X) → P x → Q x) → (xs : List X) → Each P xs → Each Q xs
-each_map g [] h = tt
-each_map g (x ∷ xs) h = (g x h.0, each_map g xs h.1)
-
-pub each_both : {X : Type 0} {P Q T : X → Type 0} → ((x : X) → P x → Q x → T x) → (xs : List X) → Each P xs → Each Q xs → Each T xs
-each_both g [] p q = tt
-each_both g (x ∷ xs) p q = (g x p.0 q.0, each_both g xs p.1 q.1)
-
-pub each_any : {X : Type 0} (xs : List X) → Each (λ _. Prim.Unit {0}) xs
-each_any [] = tt
-each_any (x ∷ xs) = (tt, each_any xs)
+use Rattle.std.proofs.lemmas.List.Elements.{filter_map-append}
+use Rattle.proof_machines.proofs.unit.Cuts.{all_at, record_first, joined_up, marks}
 
 abbrev pub Without : {R : Type 0} → Unit → RPiece R → Type 0
 Without u p = record_at u p.chunks ≡ None
@@ -49,7 +39,7 @@ pub cut_foreign : {R : Type 0} (u : Unit) (total newest : ℕ) (cs : List (Chunk
     → Each (Without u) (marks total newest cs)
 cut_foreign u total newest [] e = tt
 cut_foreign u total newest (c ∷ cs) e =
-    let both : all_at u c ++ all_at u (joined_up cs) ≡ [] = sym (all_at-append u c (joined_up cs)) ∙ e in
+    let both : all_at u c ++ all_at u (joined_up cs) ≡ [] = sym (filter_map-append _ c (joined_up cs)) ∙ e in
     let none = nil_left (all_at u c) (all_at u (joined_up cs)) both in
     (record_first u c ∙ rw none refl, cut_foreign u total newest cs (nil_right (all_at u c) (all_at u (joined_up cs)) both))
 
@@ -57,25 +47,17 @@ pieces_foreign : {R : Type 0} (u : Unit) (ps : List (RPiece R)) → Each (Withou
 pieces_foreign u [] e = refl
 pieces_foreign u (p ∷ ps) e = let a = e.0 in let b = pieces_foreign u ps e.1 in record_at-append u p.chunks (chunks_of ps) ∙ rw (a, b) refl
 
-puts_foreign : {R : Type 0} (u : Unit) (o : Op) (ps : List (RPiece R)) → Each (Without u) ps → Each (SentForeign u) (map (put_to o) ps)
-puts_foreign u o [] e = tt
-puts_foreign u o (p ∷ ps) e = (e.0, puts_foreign u o ps e.1)
-
-forwards_foreign : (R : Type 0) (u : Unit) (to : ℕ) (f : List ℕ) → Each (SentForeign u) (map (forward_to {R = R} to) f)
-forwards_foreign R u to [] = tt
-forwards_foreign R u to (p ∷ f) = (tt, forwards_foreign R u to f)
-
 module _ {R : Type 0} (u : Unit) (o : Op) where
   said_foreign : (said : Said ℕ (RPiece R)) → SaidHas (Any ℕ) (Without u) said → Each (SentForeign u) (sends_of o said)
   said_foreign Nothing h = tt
   said_foreign (Remove p) h = (is_among-units u p.chunks ∙ ap is_some h, tt)
   said_foreign (Restore ps) h = (pieces_foreign u ps h, tt)
   said_foreign (Ask p) h = (h, tt)
-  said_foreign (Put ps) h = puts_foreign u o ps h
+  said_foreign (Put ps) h = each_made _ (put_to o) (λ p none. none) ps h
   said_foreign (Release f) h =
-      each-append (SentForeign {R = R} u) (map (forward_to o.dst) f) ((0, M_install o.num o.src o.dst) ∷ []) (forwards_foreign R u o.dst f) (tt, tt)
+      each-append (SentForeign {R = R} u) (map (forward_to o.dst) f) ((0, M_install o.num o.src o.dst) ∷ []) (each_made _ _ (λ p _. tt) f (each_any f)) (tt, tt)
   said_foreign (Give_back f) h =
-      each-append (SentForeign {R = R} u) (map (forward_to o.src) f) ((0, M_fence_to o.num o.src) ∷ []) (forwards_foreign R u o.src f) (tt, tt)
+      each-append (SentForeign {R = R} u) (map (forward_to o.src) f) ((0, M_fence_to o.num o.src) ∷ []) (each_made _ _ (λ p _. tt) f (each_any f)) (tt, tt)
   said_foreign said h = (tt, tt)
 
   has_none : (phase : RPhase R) → Clean u phase → PhaseHas (Without u) (Any Answer) (Any (Option Answer)) phase
@@ -104,7 +86,7 @@ module _ {R : Type 0} (u : Unit) (o : Op) where
   brings_back m w = tt
 
   pub from_source_clean : (phase : RPhase R) (f : List ℕ) (m : Msg R) → Clean u phase → Foreign u m → StaysClean u (r_from_source o phase f m)
-  from_source_clean phase f m c w = from_source_holds (all_clean f) (any_each f) phase (has_none phase c) m (brings m w)
+  from_source_clean phase f m c w = from_source_holds (all_clean f) (each_any f) phase (has_none phase c) m (brings m w)
 
   pub from_destination_clean : (phase : RPhase R) (f : List ℕ) (m : Msg R) → Clean u phase → Foreign u m → StaysClean u (r_from_destination o phase f m)
-  from_destination_clean phase f m c w = from_destination_holds (all_clean f) (any_each f) phase (has_none phase c) m (brings_back m w)
+  from_destination_clean phase f m c w = from_destination_holds (all_clean f) (each_any f) phase (has_none phase c) m (brings_back m w)

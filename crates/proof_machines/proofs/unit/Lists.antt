@@ -1,11 +1,12 @@
 -- Laws over `++` of the lists in a stage: processed packets, plain packets mixed with passed ones, and events mixed with pieces and
 -- Deleteds.
-use Rattle.std.proofs.Common.{◌≡◌, ℕ, Bool, true, false, Option, None, Some, List, [], ◌∷◌, ◌++◌, ◌∙◌, map, refl, ap}
+use Rattle.std.proofs.Common.{◌≡◌, ℕ, Bool, true, false, Option, None, Some, List, [], ◌∷◌, ◌++◌, ◌∙◌, ◌&&◌, not, map, refl, sym, ap}
 use Rattle.std.specs.Prelude.{if◌then◌else◌, is_some}
-use Rattle.std.specs.List.{filter_map, cons_option}
-use Rattle.std.proofs.lemmas.List.Elements.{filter_map-append}
-use Rattle.proof_machines.proofs.unit.Machine.{Where, Ran, on, Steps, runs, Part, Item, Carry, Pass, Event, Piece, Deleted, is_nil}
-use Rattle.proof_machines.proofs.Tests.{split}
+use Rattle.std.specs.List.{filter_map, cons_option, list_all}
+use Rattle.std.proofs.lemmas.Bool.{and_parts}
+pub use Rattle.proof_machines.proofs.unit.Machine.{firsts}
+use Rattle.proof_machines.proofs.unit.Machine.{Part, Item, Carry, Pass, Event, Piece, Deleted, is_nil}
+use Rattle.proof_machines.proofs.Tests.{where_true}
 
 pub nil_is : {X : Type 0} (xs : List X) → is_nil xs ≡ true → xs ≡ []
 nil_is [] e = refl
@@ -15,22 +16,9 @@ pub none_is : {X : Type 0} (o : Option X) → is_some o ≡ false → o ≡ None
 none_is None e = refl
 none_is (Some x) e = cc
 
-pub runs-append : {R : Type 0} (F : Steps R) (o : Option R) (d e : List Ran) → runs F o (d ++ e) ≡ runs F (runs F o d) e
-runs-append F o [] e = refl
-runs-append F o (x ∷ d) e = runs-append F (Some (F.step o x.0)) d e
-
--- the packets of what was processed
-abbrev pub firsts : List Ran → List ℕ
-firsts [] = []
-firsts (x ∷ xs) = x.0 ∷ firsts xs
-
-pub firsts-append : (d e : List Ran) → firsts (d ++ e) ≡ firsts d ++ firsts e
-firsts-append [] e = refl
-firsts-append (x ∷ d) e = ap (λ z. x.0 ∷ z) (firsts-append d e)
-
-pub firsts-on : (w : Where) (h : List ℕ) → firsts (map (on w) h) ≡ h
-firsts-on w [] = refl
-firsts-on w (x ∷ h) = ap (λ z. x ∷ z) (firsts-on w h)
+pub firsts-on : {X : Type 0} (at : X) (h : List ℕ) → map (λ (z : ℕ × X). z.0) (map (λ p. (p, at)) h) ≡ h
+firsts-on at [] = refl
+firsts-on at (x ∷ h) = ap (λ z. x ∷ z) (firsts-on at h)
 
 -- pass and plain packets mixed: true is a pass
 abbrev pub marked : {R : Type 0} → Bool × ℕ → Item R
@@ -43,40 +31,10 @@ abbrev pub plain : ℕ → Bool × ℕ
 plain p = (false, p)
 
 abbrev pub passes : List (Bool × ℕ) → List ℕ
-passes [] = []
-passes (x ∷ xs) = if x.0 then x.1 ∷ passes xs else passes xs
+passes xs = filter_map (λ x. where_true x.0 x.1) xs
 
 abbrev pub plains : List (Bool × ℕ) → List ℕ
-plains [] = []
-plains (x ∷ xs) = if x.0 then plains xs else x.1 ∷ plains xs
-
-pub passes-append : (xs ys : List (Bool × ℕ)) → passes (xs ++ ys) ≡ passes xs ++ passes ys
-passes-append [] ys = refl
-passes-append (x ∷ xs) ys =
-    split x.0 (λ b. (if b then x.1 ∷ passes (xs ++ ys) else passes (xs ++ ys)) ≡ (if b then x.1 ∷ passes xs else passes xs) ++ passes ys)
-    (λ _. ap (λ z. x.1 ∷ z) (passes-append xs ys)) (λ _. passes-append xs ys)
-
-pub plains-append : (xs ys : List (Bool × ℕ)) → plains (xs ++ ys) ≡ plains xs ++ plains ys
-plains-append [] ys = refl
-plains-append (x ∷ xs) ys =
-    split x.0 (λ b. (if b then plains (xs ++ ys) else x.1 ∷ plains (xs ++ ys)) ≡ (if b then plains xs else x.1 ∷ plains xs) ++ plains ys)
-    (λ _. plains-append xs ys) (λ _. ap (λ z. x.1 ∷ z) (plains-append xs ys))
-
-pub passes-passing : (xs : List ℕ) → passes (map passing xs) ≡ xs
-passes-passing [] = refl
-passes-passing (x ∷ xs) = ap (λ z. x ∷ z) (passes-passing xs)
-
-pub plains-passing : (xs : List ℕ) → plains (map passing xs) ≡ []
-plains-passing [] = refl
-plains-passing (x ∷ xs) = plains-passing xs
-
-pub passes-plain : (xs : List ℕ) → passes (map plain xs) ≡ []
-passes-plain [] = refl
-passes-plain (x ∷ xs) = passes-plain xs
-
-pub plains-plain : (xs : List ℕ) → plains (map plain xs) ≡ xs
-plains-plain [] = refl
-plains-plain (x ∷ xs) = ap (λ z. x ∷ z) (plains-plain xs)
+plains xs = filter_map (λ x. where_true (not x.0) x.1) xs
 
 pub marked-passing : {R : Type 0} (xs : List ℕ) → map (marked {R = R}) (map passing xs) ≡ map Pass xs
 marked-passing [] = refl
@@ -119,15 +77,6 @@ parts_in y = filter_map piece_of y
 abbrev pub named : {R : Type 0} → List (Mix R) → List (Part R)
 named y = filter_map deleted_of y
 
-pub events-append : {R : Type 0} (x y : List (Mix R)) → events (x ++ y) ≡ events x ++ events y
-events-append x y = filter_map-append event_of x y
-
-pub pieces-append : {R : Type 0} (x y : List (Mix R)) → parts_in (x ++ y) ≡ parts_in x ++ parts_in y
-pieces-append x y = filter_map-append piece_of x y
-
-pub named-append : {R : Type 0} (x y : List (Mix R)) → named (x ++ y) ≡ named x ++ named y
-named-append x y = filter_map-append deleted_of x y
-
 -- what is picked of a list of one kind: all of it, or nothing
 pub picked_each : {X Y : Type 0} (pick : Y → Option X) (make : X → Y) → ((x : X) → pick (make x) ≡ Some x) → (xs : List X) → filter_map pick (map make xs) ≡ xs
 picked_each pick make is [] = refl
@@ -136,6 +85,26 @@ picked_each pick make is (x ∷ xs) = ap (λ o. cons_option o (filter_map pick (
 pub picked_none : {X Y Z : Type 0} (pick : Y → Option Z) (make : X → Y) → ((x : X) → pick (make x) ≡ None) → (xs : List X) → filter_map pick (map make xs) ≡ []
 picked_none pick make is [] = refl
 picked_none pick make is (x ∷ xs) = ap (λ o. cons_option o (filter_map pick (map make xs))) (is x) ∙ picked_none pick make is xs
+
+pub passes-passing : (xs : List ℕ) → passes (map passing xs) ≡ xs
+passes-passing xs = picked_each _ passing (λ x. refl) xs
+
+pub plains-passing : (xs : List ℕ) → plains (map passing xs) ≡ []
+plains-passing xs = picked_none _ passing (λ x. refl) xs
+
+pub passes-plain : (xs : List ℕ) → passes (map plain xs) ≡ []
+passes-plain xs = picked_none _ plain (λ x. refl) xs
+
+pub plains-plain : (xs : List ℕ) → plains (map plain xs) ≡ xs
+plains-plain xs = picked_each _ plain (λ x. refl) xs
+
+-- where all of a list pass a test, its first does; and all that are made pass where each does
+pub head_passes : {X : Type 0} (p : X → Bool) (x : X) (xs ys : List X) → ys ≡ x ∷ xs → list_all p ys ≡ true → p x ≡ true
+head_passes p x xs ys e all = (and_parts (p x) (list_all p xs) (ap (list_all p) (sym e) ∙ all)).0
+
+pub all_pass : {X Y : Type 0} (p : Y → Bool) (make : X → Y) → ((x : X) → p (make x) ≡ true) → (xs : List X) → list_all p (map make xs) ≡ true
+all_pass p make is [] = refl
+all_pass p make is (x ∷ xs) = ap (λ b. b && list_all p (map make xs)) (is x) ∙ all_pass p make is xs
 
 -- the link as Stream leaves it
 pub events-sent : {R : Type 0} (e : List ℕ) (ps : List (Part R)) → events (map Ev e ++ map Pc ps) ≡ e
@@ -163,6 +132,10 @@ never_true e = cc
 
 pub cons_nil : {X Y : Type 0} {x : X} {xs : List X} → x ∷ xs ≡ [] → Y
 cons_nil e = cc
+
+pub cons_option_nil : {X : Type 0} (o : Option X) (xs : List X) → cons_option o xs ≡ [] → (o ≡ None) × (xs ≡ [])
+cons_option_nil None xs e = (refl, e)
+cons_option_nil (Some x) xs e = cc
 
 pub map_nil : {X Y : Type 0} (g : X → Y) (xs : List X) → map g xs ≡ [] → xs ≡ []
 map_nil g [] e = refl

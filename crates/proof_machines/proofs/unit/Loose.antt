@@ -1,12 +1,12 @@
 -- Each step of a move without a buffer at B, after its Install, leads to a stage, with the same packets in whatever order.
-use Rattle.proof_machines.proofs.unit.Words.{◌≡◌, ℕ, Bool, true, false, List, [], ◌∷◌, ◌++◌, refl, append_assoc, append-nil, arith, At_b, Ran, Steps}
-use Rattle.proof_machines.proofs.unit.Words.{MachineStep, Arrive, Take_sa, Take_sb, Take_ac, Take_cs, firsts-append, passing, plain, plains, passes-append}
-use Rattle.proof_machines.proofs.unit.Words.{plains-append, Turned_loose, Fenced_loose, Ending_loose, Fence_loose, Fenced_b, GoesOn, shapes, paths, still}
-use Rattle.proof_machines.proofs.unit.Words.{one_more}
+use Rattle.proof_machines.proofs.unit.Words.{ℕ, Bool, true, false, List, [], ◌∷◌, ◌++◌, append_assoc, append-nil, arith, At_b, Ran, Steps}
+use Rattle.proof_machines.proofs.unit.Words.{MachineStep, Arrive, Take_sa, Take_sb, Take_ac, Take_cs, map-append, passing, plain, plains}
+use Rattle.std.proofs.lemmas.List.Elements.{filter_map-append}
+use Rattle.proof_machines.proofs.unit.Words.{Turned_loose, Fenced_loose, Ending_loose, Fence_loose, Fenced_b, GoesOn, shapes, paths, still, one_more}
 pub use Rattle.actor_net.proofs.NumberCounts.{none_in, times-append}
 use Rattle.proof_machines.proofs.unit.Late.{same_lists}
 
-ruleset counts = (times-append, firsts-append, passes-append, plains-append, append_assoc, append-nil)
+ruleset counts = (times-append, map-append, filter_map-append, append_assoc, append-nil)
 
 pub turned_loose : {R : Type 0} (F : Steps R) (d : List Ran) (x : List (Bool × ℕ)) (f e l : List ℕ) (m : MachineStep R) → GoesOn F (Turned_loose d x f e l) m
 turned_loose F d x f e l (Arrive p) =

@@ -2,6 +2,7 @@
 -- source A, the destination B, and a third instance C, where a unit that the move doesn't cover may be.
 use Rattle.std.proofs.Common.{ℕ, Bool, true, false, Option, Some, None, List, [], ◌∷◌, ◌++◌, map}
 use Rattle.std.specs.Prelude.{if◌then◌else◌, is_some}
+use Rattle.std.specs.List as lists
 use Rattle.nf_msgs.specs.declared.answer.Answer.{Answer}
 pub use Rattle.move_op.specs.declared.door.Door.{Door}
 pub use Rattle.move_op.specs.declared.door.Door.TheVariants.{Shut, Asked, Open, Refused}
@@ -28,13 +29,16 @@ pub record Steps (R : Type 0) : Type 0 where
   pub step : Option R → ℕ → R
   pub newer : R → R → R
 
-abbrev pub runs : {R : Type 0} → Steps R → Option R → List Ran → Option R
-runs F o [] = o
-runs F o (x ∷ xs) = runs F (Some (F.step o x.0)) xs
+-- the record of the fold over packets
+abbrev pub fold : {R : Type 0} → Steps R → Option R → List ℕ → Option R
+fold F o ps = lists.fold (λ r p. Some (F.step r p)) o ps
 
--- the record of the fold
+-- the packets of what was processed, and the record after it
+abbrev pub firsts : List Ran → List ℕ
+firsts xs = map (λ x. x.0) xs
+
 abbrev pub after : {R : Type 0} → Steps R → List Ran → Option R
-after F d = runs F None d
+after F d = fold F None (firsts d)
 
 pub data Rule : Type 0 where
   Free : Rule
@@ -119,7 +123,7 @@ put F true (Some why) i h = sends i (Put_no why h.own ∷ [])
 abbrev pub inst_does : {R : Type 0} → Steps R → Where → List (Part R) → Option Answer → Inst R → Item R → Did R
 inst_does F w parts refuse i (Carry p) = carried F w i.rule i p
 inst_does F w parts refuse i (Pass p) = ran_one F w i p
-inst_does F w parts refuse i Fence = record { inst = idle (runs F i.live (map (on w) i.held)); to_c = Fenced ∷ []; ran = map (on w) i.held }
+inst_does F w parts refuse i Fence = record { inst = idle (fold F i.live i.held); to_c = Fenced ∷ []; ran = map (on w) i.held }
 inst_does F w parts refuse i (Enable r) = sends (record i { rule = r }) (Enabled ∷ [])
 inst_does F w parts refuse i Stream = sends i (map Piece parts)
 inst_does F w parts refuse i (Delete own) = sends (record i { live = if own then None else i.live }) (Deleted ∷ [])

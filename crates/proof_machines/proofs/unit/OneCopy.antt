@@ -1,5 +1,6 @@
 -- Of one unit at most one record is on its way: with the pieces that the controller keeps, and in what comes from B.
 use Rattle.proof_machines.proofs.unit.Words.{◌≡◌, ◌+◌, ◌≤◌, Option, List, ◌∷◌, ◌++◌, length, length-append, ap, ◌∙◌, sym, arith, option_to_list, Steps, Item}
+use Rattle.proof_machines.proofs.unit.UnitPieces.{cons_option_is}
 use Rattle.proof_machines.proofs.unit.Kept.{records_on, record_in, frozen_in, free_in, Kept, Nowhere, Is_live, On_way, Twice}
 use Rattle.proof_machines.proofs.unit.Seats.{UnitSeat, seat_shape}
 use Rattle.proof_machines.proofs.unit.SeatLaws.{seat_kept}
@@ -31,6 +32,6 @@ few_records F s =
 -- with the record in the first message
 pub records_head : {R : Type 0} (it : Item R) (v xs : List (Item R)) → it ∷ v ≡ xs → length (option_to_list (record_in it)) ≤ length (records_on xs)
 records_head it v xs e =
-    let here : records_on xs ≡ option_to_list (record_in it) ++ records_on v = ap records_on (sym e) in
+    let here : records_on xs ≡ option_to_list (record_in it) ++ records_on v = ap records_on (sym e) ∙ cons_option_is (record_in it) (records_on v) in
     let all = ap length here ∙ length-append (option_to_list (record_in it)) (records_on v) in
     omega (arith, all)

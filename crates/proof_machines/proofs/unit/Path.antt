@@ -5,14 +5,14 @@ use Rattle.std.specs.List.{filter_map}
 use Rattle.std.proofs.lemmas.List.Elements.{filter_map-append}
 use Rattle.proof_machines.proofs.unit.Lists.{picked_each, picked_none}
 use Rattle.proof_machines.proofs.unit.Words.{Event, Forward, State, marked, passes, plains, Mix, Ev, Pc, Dd, shown, events, Stage, At_rest, shape, path, to_a}
-use Rattle.proof_machines.proofs.unit.Words.{to_b}
+use Rattle.proof_machines.proofs.unit.Words.{to_b, nil_left, nil_right}
 
 -- the packet of an item of a kind
 abbrev pass_of : {R : Type 0} → Item R → Option ℕ
 pass_of (Pass p) = Some p
 pass_of x = None
 
-abbrev carry_of : {R : Type 0} → Item R → Option ℕ
+abbrev pub carry_of : {R : Type 0} → Item R → Option ℕ
 carry_of (Carry p) = Some p
 carry_of x = None
 
@@ -36,12 +36,58 @@ events_in xs = filter_map event_of xs
 abbrev pub forwards : {R : Type 0} → List (Item R) → List ℕ
 forwards xs = filter_map forward_of xs
 
+-- the path, with what stands at instances in this order
+abbrev pub places : {R : Type 0} → State R → List ℕ → List ℕ
+places x last = passes_in x.sa ++ (passes_in x.sb ++ (forwards x.cs ++ (x.store ++ (events_in x.ac ++ last))))
+
 -- the arrived and unprocessed packets of the unit, by the places where they stand
 abbrev pub path_of : {R : Type 0} → State R → List ℕ
-path_of u = passes_in u.sa ++ (passes_in u.sb ++ (forwards u.cs ++ (u.store ++ (events_in u.ac ++ (u.a.held ++ (carries u.sa ++ (u.b.held ++ carries u.sb)))))))
+path_of u = places u (u.a.held ++ (carries u.sa ++ (u.b.held ++ carries u.sb)))
 
-pub carries-append : {R : Type 0} (xs ys : List (Item R)) → carries (xs ++ ys) ≡ carries xs ++ carries ys
-carries-append xs ys = filter_map-append carry_of xs ys
+-- a path that has nothing has none at its first places, and none at its last
+pub record NoneBefore {R : Type 0} (x : State R) (last : List ℕ) : Type 0 where
+  pub passes_a : passes_in x.sa ≡ []
+  pub passes_b : passes_in x.sb ≡ []
+  pub forwards_s : forwards x.cs ≡ []
+  pub store : x.store ≡ []
+  pub events_a : events_in x.ac ≡ []
+  pub rest : last ≡ []
+
+pub none_before : {R : Type 0} (x : State R) (last : List ℕ) → places x last ≡ [] → NoneBefore x last
+none_before x last p0 =
+    let p1 = nil_right (passes_in x.sa) _ p0 in
+    let p2 = nil_right (passes_in x.sb) _ p1 in
+    let p3 = nil_right (forwards x.cs) _ p2 in
+    let p4 = nil_right x.store _ p3 in
+    record {
+      passes_a = nil_left (passes_in x.sa) _ p0;
+      passes_b = nil_left (passes_in x.sb) _ p1;
+      forwards_s = nil_left (forwards x.cs) _ p2;
+      store = nil_left x.store _ p3;
+      events_a = nil_left (events_in x.ac) _ p4;
+      rest = nil_right (events_in x.ac) _ p4;
+    }
+
+-- A stage without any packet of the unit has none anywhere.
+pub record HasNone {R : Type 0} (x : State R) : Type 0 where
+  pub before : NoneBefore x (x.a.held ++ (carries x.sa ++ (x.b.held ++ carries x.sb)))
+  pub held_a : x.a.held ≡ []
+  pub carries_a : carries x.sa ≡ []
+  pub held_b : x.b.held ≡ []
+  pub carries_b : carries x.sb ≡ []
+
+pub none_of : {R : Type 0} (x : State R) → path_of x ≡ [] → HasNone x
+none_of x none =
+    let before = none_before x (x.a.held ++ (carries x.sa ++ (x.b.held ++ carries x.sb))) none in
+    let p1 = nil_right x.a.held _ before.rest in
+    let p2 = nil_right (carries x.sa) _ p1 in
+    record {
+      before = before;
+      held_a = nil_left x.a.held _ before.rest;
+      carries_a = nil_left (carries x.sa) _ p1;
+      held_b = nil_left x.b.held _ p2;
+      carries_b = nil_right x.b.held _ p2;
+    }
 
 -- lists of one kind
 abbrev pub carry : {R : Type 0} → ℕ → Item R

@@ -1,9 +1,10 @@
 -- A row of another move shows the unit nothing: what it sends isn't seen, and it still keeps no packet of the unit.
-use Rattle.proof_machines.proofs.unit.Words.{◌≡◌, ℕ, Bool, true, false, None, Option, List, [], ◌∷◌, map, refl, if◌then◌else◌, ◌==◌, Answer, Said, Nothing}
-use Rattle.proof_machines.proofs.unit.Words.{Release, Give_back, cons_nil, split, by_if}
+use Rattle.proof_machines.proofs.unit.Real.{none_if}
+use Rattle.proof_machines.proofs.EachLaws.{each_any, each_made, each_fails, none_passes}
+use Rattle.proof_machines.proofs.unit.Words.{◌≡◌, ℕ, false, None, Option, List, [], ◌∷◌, map, refl, ◌==◌, Answer, Said, Nothing, Release, Give_back, by_if}
 use Rattle.move_op.specs.Table.{Put, Forward}
 use Rattle.proof_machines.proofs.unit.Real.{RPiece, Msg, M_event, M_put_no, M_install, M_fence_to, RPhase, Op, OperationTurn, r_words, put_to, forward_to}
-use Rattle.proof_machines.proofs.unit.Real.{sends_of, r_from_source, r_from_destination, Frame, where_true, seen, view, only_mine, sent_for}
+use Rattle.proof_machines.proofs.unit.Real.{sends_of, r_from_source, r_from_destination, Frame, seen, view, only_mine, sent_for}
 use Rattle.proof_machines.proofs.unit.Labels.{Each, each-append}
 use Rattle.proof_machines.proofs.unit.TableRows.{Hold, SaidHas, Any, any_phase}
 use Rattle.proof_machines.proofs.unit.RealRows.{Brings, BringsBack, from_source_holds, from_destination_holds}
@@ -20,43 +21,20 @@ view_nothing v y [] e = refl
 view_nothing v y (x ∷ xs) e =
     by_if (λ r. view v r ≡ []) (x.0 == y) (let none = e.0 in rw none (view_nothing v y xs e.1)) (view_nothing v y xs e.1)
 
-unseen_if : {X : Type 0} (b : Bool) (x : X) → b ≡ false → where_true b x ≡ None
-unseen_if true x e = let never : true ≡ false = e in cc
-unseen_if false x e = refl
-
 -- a packet of another unit
 abbrev pub Other : Frame → ℕ → Type 0
 Other v p = v.mine p ≡ false
 
--- a list that keeps no packet of the unit
-none_mine : (v : Frame) (f : List ℕ) → only_mine v f ≡ [] → Each (Other v) f
-none_mine v [] e = tt
-none_mine v (p ∷ f) e = split (v.mine p) (λ b. (if b then p ∷ only_mine v f else only_mine v f) ≡ [] → (v.mine p ≡ false) × Each (Other v) f)
-    (λ is some. cons_nil some)
-    (λ off rest. (off, none_mine v f rest)) e
-
-only_none : (v : Frame) (f : List ℕ) → Each (Other v) f → only_mine v f ≡ []
-only_none v [] h = refl
-only_none v (p ∷ f) h = let off = h.0 in rw off (only_none v f h.1)
-
-forwards_unseen : (R : Type 0) (v : Frame) (to : ℕ) (f : List ℕ) → Each (Other v) f → Each (Unseen {R = R} v) (map (forward_to to) f)
-forwards_unseen R v to [] h = tt
-forwards_unseen R v to (p ∷ f) h = (unseen_if (v.mine p) _ h.0, forwards_unseen R v to f h.1)
-
 module _ {R : Type 0} (v : Frame) (o : Op) (other : (o.num == v.move) ≡ false) where
-  puts_unseen : (fr : List (RPiece R)) → Each (Unseen v) (map (put_to o) fr)
-  puts_unseen [] = tt
-  puts_unseen (p ∷ fr) = (unseen_if (o.num == v.move) _ other, puts_unseen fr)
-
   said_unseen : (said : Said ℕ (RPiece R)) → SaidHas (Other v) (Any (RPiece R)) said → Each (Unseen v) (sends_of o said)
   said_unseen Nothing h = tt
-  said_unseen (Put ps) h = puts_unseen ps
-  said_unseen (Forward p) h = (unseen_if (v.mine p) _ h, tt)
+  said_unseen (Put ps) h = each_made _ (put_to o) (λ p _. none_if (o.num == v.move) _ other) ps (each_any ps)
+  said_unseen (Forward p) h = (none_if (v.mine p) _ h, tt)
   said_unseen (Release f) h = each-append (Unseen {R = R} v) (map (forward_to o.dst) f) ((0, M_install o.num o.src o.dst) ∷ [])
-      (forwards_unseen R v o.dst f h) (unseen_if (o.num == v.move) _ other, tt)
+      (each_made _ _ (λ p off. none_if (v.mine p) _ off) f h) (none_if (o.num == v.move) _ other, tt)
   said_unseen (Give_back f) h = each-append (Unseen {R = R} v) (map (forward_to o.src) f) ((0, M_fence_to o.num o.src) ∷ [])
-      (forwards_unseen R v o.src f h) (unseen_if (o.num == v.move) _ other, tt)
-  said_unseen said h = (unseen_if (o.num == v.move) _ other, tt)
+      (each_made _ _ (λ p off. none_if (v.mine p) _ off) f h) (none_if (o.num == v.move) _ other, tt)
+  said_unseen said h = (none_if (o.num == v.move) _ other, tt)
 
   all_quiet : (f : List ℕ) → only_mine v f ≡ []
       → Hold (r_words o f) (Other v) (Any (RPiece R)) (Any Answer) (Any (Option Answer)) (Is_quiet v) (Is_quiet v)
@@ -65,7 +43,7 @@ module _ {R : Type 0} (v : Frame) (o : Op) (other : (o.num == v.move) ≡ false)
     refused = λ why x. tt;
     next = λ ph said x y. (said_unseen said y, e);
     keeps = λ h. h;
-    stores = λ ps all h. (h.0, only_none v ps all);
+    stores = λ ps all h. (h.0, none_passes v.mine ps all);
   }
 
   -- an event of the unit has the number of its own move
@@ -82,7 +60,7 @@ module _ {R : Type 0} (v : Frame) (o : Op) (other : (o.num == v.move) ≡ false)
   brings_back m = tt
 
   pub from_source_quiet : (phase : RPhase R) (f : List ℕ) (m : Msg R) → IsNotMine m → only_mine v f ≡ [] → Is_quiet v (r_from_source o phase f m)
-  from_source_quiet phase f m h e = from_source_holds (all_quiet f e) (none_mine v f e) phase (any_phase phase) m (brings m h)
+  from_source_quiet phase f m h e = from_source_holds (all_quiet f e) (each_fails v.mine f e) phase (any_phase phase) m (brings m h)
 
   pub from_destination_quiet : (phase : RPhase R) (f : List ℕ) (m : Msg R) → only_mine v f ≡ [] → Is_quiet v (r_from_destination o phase f m)
-  from_destination_quiet phase f m e = from_destination_holds (all_quiet f e) (none_mine v f e) phase (any_phase phase) m (brings_back m)
+  from_destination_quiet phase f m e = from_destination_holds (all_quiet f e) (each_fails v.mine f e) phase (any_phase phase) m (brings_back m)

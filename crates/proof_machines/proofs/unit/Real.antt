@@ -6,6 +6,10 @@ use Rattle.proof_machines.proofs.unit.Words.{on_put_ok, on_put_no, on_destinatio
 use Rattle.proof_machines.proofs.unit.Words.{Enable, Stream, Delete, Put, Restore, Enabled, Event, Piece, Deleted, Put_ok, Put_no, Restored, Fenced, Forward}
 use Rattle.proof_machines.proofs.unit.Words.{Fence_to, Install, Stray, Ended, Phase, ControllerTurn, Unit}
 use Rattle.std.specs.FinMap.{find}
+pub use Rattle.proof_machines.proofs.Tests.{where_true}
+use Rattle.proof_machines.proofs.Tests.{by_if}
+use Rattle.std.specs.List.{filter, filter_map, flat_map}
+pub use Rattle.std.specs.List.{cons_option as add}
 use Rattle.move_op.specs.Table as said
 use Rattle.proof_machines.proofs.unit.TableViews.{map_phase}
 
@@ -27,8 +31,7 @@ pub record RPiece (R : Type 0) : Type 0 where
   pub last : Bool
 
 abbrev pub chunks_of : {R : Type 0} → List (RPiece R) → Chunks R
-chunks_of [] = []
-chunks_of (p ∷ ps) = p.chunks ++ chunks_of ps
+chunks_of ps = flat_map (λ p. p.chunks) ps
 
 pub data Msg (R : Type 0) : Type 0 where
   M_enable : ℕ → Rule → Msg R
@@ -129,10 +132,6 @@ pub record Frame : Type 0 where
   pub from : ℕ
   pub to : ℕ
 
-abbrev pub where_true : {X : Type 0} → Bool → X → Option X
-where_true true x = Some x
-where_true false x = None
-
 pub off_if : {X : Type 0} (t : Bool) (x : X) → where_true t x ≡ None → t ≡ false
 off_if true x e = cc
 off_if false x e = refl
@@ -145,6 +144,11 @@ see v p = record { own = record_at v.unit p.chunks; last = p.last }
 
 abbrev pub sends_to : {R : Type 0} → Frame → ℕ → (Where → Item R) → Item R
 sends_to v to item = if to == v.from then item At_a else if to == v.to then item At_b else Stray
+
+-- what holds of an item to each side, and of a stray one, holds of the one that is sent
+pub sent_either : {R : Type 0} (P : Item R → Type 0) (v : Frame) (to : ℕ) (item : Where → Item R) → ((w : Where) → P (item w)) → P Stray
+    → P (sends_to v to item)
+sent_either P v to item each stray = by_if P (to == v.from) (each At_a) (by_if P (to == v.to) (each At_b) stray)
 
 abbrev pub seen : {R : Type 0} → Frame → Msg R → Option (Item R)
 seen v (M_enable o r) = where_true (o == v.move) (Enable r)
@@ -164,17 +168,11 @@ seen v (M_forward p to) = where_true (v.mine p) (sends_to v to (λ w. Forward w 
 seen v (M_install o from to) = where_true (o == v.move) (if (from == v.from) && (to == v.to) then Install else Stray)
 seen v (M_fence_to o to) = where_true (o == v.move) (sends_to v to (λ w. Fence_to w))
 
-abbrev pub add : {X : Type 0} → Option X → List X → List X
-add None xs = xs
-add (Some x) xs = x ∷ xs
-
 abbrev pub view : {R : Type 0} → Frame → List (Msg R) → List (Item R)
-view v [] = []
-view v (m ∷ ms) = add (seen v m) (view v ms)
+view v ms = filter_map (seen v) ms
 
 abbrev pub only_mine : Frame → List ℕ → List ℕ
-only_mine v [] = []
-only_mine v (p ∷ ps) = if v.mine p then p ∷ only_mine v ps else only_mine v ps
+only_mine v ps = filter v.mine ps
 
 abbrev pub see_phase : {R : Type 0} → Frame → RPhase R → Phase R
 see_phase v = map_phase (see v) Ended

@@ -13,6 +13,8 @@ use Rattle.nf_function.specs.Records.{newest}
 use Rattle.record_table.proofs.UnitOrder.{one_unit, same_unit-true}
 use Rattle.record_table.proofs.RecordLookUps.{get-joined, get-without}
 use Rattle.proof_machines.proofs.unit.Real.{Chunks, record_at}
+use Rattle.std.specs.List.{cons_option}
+use Rattle.proof_machines.proofs.Tests.{where_true}
 use Rattle.proof_machines.proofs.unit.Cuts.{all_at}
 use Rattle.proof_machines.proofs.unit.SeenInst.{Tables, Laws}
 
@@ -31,7 +33,7 @@ module _ {R : Type 0} where
   none_above : (u : Unit) (es : Chunks R) → T (below_all unit_cmp u es) → all_at u es ≡ []
   none_above u [] h = refl
   none_above u (e ∷ es) h =
-      elim (unit_cmp u e.0) as (λ o. T (is_lt o && below_all unit_cmp u es) → (if is_eq o then e.1 ∷ all_at u es else all_at u es) ≡ []) [
+      elim (unit_cmp u e.0) as (λ o. T (is_lt o && below_all unit_cmp u es) → cons_option (where_true (is_eq o) e.1) (all_at u es) ≡ []) [
         | Less ↦ λ rest. none_above u es rest
         | Equal ↦ λ never. absurd never
         | Greater ↦ λ never. absurd never
@@ -42,7 +44,7 @@ module _ {R : Type 0} where
   all_at-sorted u [] h = refl
   all_at-sorted u (e ∷ es) h =
       let parts = and_yes (below_all unit_cmp e.0 es) (is_sorted unit_cmp es) h in
-      split (same_unit u e.0) (λ b. (if b then e.1 ∷ all_at u es else all_at u es) ≡ option_to_list (if b then Some e.1 else record_at u es))
+      split (same_unit u e.0) (λ b. cons_option (where_true b e.1) (all_at u es) ≡ option_to_list (if b then Some e.1 else record_at u es))
       (λ t. let same = same_unit-true u e.0 t in ap (λ z. e.1 ∷ z) (none_above u es (rw same parts.0)))
       (λ _. all_at-sorted u es parts.1)
 

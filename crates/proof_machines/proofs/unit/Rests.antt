@@ -1,5 +1,5 @@
 -- The machine at rest: with no message on a link the move has ended and no packet is left.
-use Rattle.proof_machines.proofs.unit.Words.{◌≡◌, ℕ, Bool, true, false, List, [], ◌∷◌, ◌++◌, map, refl, sym, Ran, Steps, Part, Item, Carry, Phase, Over, delete}
+use Rattle.proof_machines.proofs.unit.Words.{◌≡◌, ℕ, Bool, true, false, List, [], ◌∷◌, ◌++◌, refl, sym, Ran, Steps, Part, Phase, Over, delete}
 use Rattle.proof_machines.proofs.unit.Words.{State, Mix, shown, cons_nil, map_nil, Stage, At_rest, Begun, Frozen, Stream_goes, Streams, All_put, Hold_goes}
 use Rattle.proof_machines.proofs.unit.Words.{Held, Laying, Turned, Fenced_a, Ending_b, Fence_b, Turned_loose, Fenced_loose, Ending_loose, Fence_loose, Fenced_b}
 use Rattle.proof_machines.proofs.unit.Words.{Moved, Restore_goes, Restored_comes, Turn_goes, Turned_back, Returned, Fence_a, Fenced_back, Undone, Doorway}
@@ -30,10 +30,6 @@ pub behind_nil : {X Y : Type 0} (xs : List X) (x : X) (ys : List X) → xs ++ x 
 behind_nil [] x ys e = cons_nil e
 behind_nil (a ∷ xs) x ys e = cons_nil e
 
-pub none_carried : (R : Type 0) (l : List ℕ) → map (λ p. let x : Item R = Carry p in x) l ≡ [] → l ≡ []
-none_carried R [] e = refl
-none_carried R (p ∷ l) e = cons_nil e
-
 true_false : {Y : Type 0} → true ≡ false → Y
 true_false e = cc
 
@@ -52,9 +48,9 @@ streams_on F d f [] [] l k (Is_refused v why) w h i j = true_false w.going
 
 -- the machine without a message is complete
 pub rests : {R : Type 0} (F : Steps R) (s : Stage F) → Silent (shape F s) → Complete s
-rests {R = R} F (At_rest d l k) h = (refl, none_carried R l h.sa)
-rests {R = R} F (Moved d l k) h = (refl, none_carried R l h.sb)
-rests {R = R} F (Undone d l k why) h = (refl, none_carried R l h.sa)
+rests F (At_rest d l k) h = (refl, map_nil _ l h.sa)
+rests F (Moved d l k) h = (refl, map_nil _ l h.sb)
+rests F (Undone d l k why) h = (refl, map_nil _ l h.sa)
 rests F (Begun d l k) h = cons_nil h.ca
 rests F (Frozen d e l k) h = cons_nil h.ac
 rests F (Stream_goes d f e l k) h = cons_nil h.ca

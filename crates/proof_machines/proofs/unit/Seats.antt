@@ -1,6 +1,6 @@
 -- Seats: a unit that the move covers, one that its destination owns already, one of a third instance. Each step leads from a seat to
 -- a seat, and without a message the move is over.
-use Rattle.proof_machines.proofs.unit.Words.{◌≡◌, ℕ, Bool, true, false, List, [], ◌++◌, refl, sym, ◌∙◌, Where, At_b, At_c, Ran, Steps, Free, Item, State}
+use Rattle.proof_machines.proofs.unit.Words.{ap, ◌≡◌, ℕ, Bool, true, false, List, ◌++◌, refl, sym, ◌∙◌, Where, At_b, At_c, Ran, Steps, Free, State}
 use Rattle.proof_machines.proofs.unit.Words.{MachineStep, moved, Stage, At_rest, shape, path, processed, all_of, loose, side_of, IsOrderedAs, Placed, Allowed}
 use Rattle.proof_machines.proofs.unit.Words.{arrived_by, never_true}
 use Rattle.proof_machines.proofs.unit.Steps.{goes_on}
@@ -71,14 +71,11 @@ covered_stays F (Covered s) m a = refl
 covered_stays F s m a = refl
 
 -- no message anywhere: the move has ended, whichever unit looks
-strip_nil : {R : Type 0} (z : List (Item R)) → z ≡ [] → strip z ≡ []
-strip_nil z e = rw e refl
-
 pub seat_rests : {R : Type 0} (F : Steps R) (s : UnitSeat F) → Silent (seat_shape F s) → is_over (seat_shape F s).phase ≡ true
 seat_rests F (Covered s) h = (rests F s h).0
 seat_rests F (Is_away s) h = (rests F s.base (record { sa = h.sa; sb = h.sb; ac = h.ac; bc = h.bc; ca = h.ca; cb = h.cb; cs = h.cs })).0
 seat_rests F (Is_beside s) h =
-    (rests F s.base (record { sa = h.sa; sb = sym s.strips ∙ strip_nil s.z h.sb; ac = h.ac; bc = h.bc; ca = h.ca; cb = h.cb; cs = h.cs })).0
+    (rests F s.base (record { sa = h.sa; sb = sym s.strips ∙ ap strip h.sb; ac = h.ac; bc = h.bc; ca = h.ca; cb = h.cb; cs = h.cs })).0
 
 pub over_free : {R : Type 0} (F : Steps R) (s : Stage F) → is_over (shape F s).phase ≡ true → (shape F s).b.rule ≡ Free
 over_free F (At_rest d l k) e = refl

@@ -4,6 +4,7 @@ use Rattle.proof_machines.proofs.unit.Words.{◌||◌, ◌==◌, is_some, same_u
 use Rattle.proof_machines.proofs.unit.Words.{Enable, Stream, Delete, Put, Restore, Enabled, Event, Piece, Deleted, Put_ok, Put_no, Restored, Fenced, Forward}
 use Rattle.proof_machines.proofs.unit.Words.{Fence_to, Install, Passing, Ending, Undoing, Ended, ControllerTurn, goes, words, from_source, part_back}
 use Rattle.proof_machines.proofs.unit.Words.{from_destination, Unit, split}
+use Rattle.std.proofs.lemmas.List.Elements.{filter-append, filter_map-append}
 use Rattle.proof_machines.proofs.unit.Machine.{Shut, Asked, Streaming, Holding, Restoring, Returning}
 use Rattle.proof_machines.proofs.unit.TableViews.{Follow, event_follows, source_enabled_follows, piece_follows, deleted_follows, restored_follows}
 use Rattle.proof_machines.proofs.unit.TableViews.{source_fenced_follows, put_ok_follows, put_no_follows, destination_enabled_follows}
@@ -29,20 +30,6 @@ is_among-units u (c ∷ x) =
 pub record_at-pieces : {R : Type 0} (v : Frame) (ps : List (RPiece R)) → record_at v.unit (chunks_of ps) ≡ pick (map (see v) ps)
 record_at-pieces v [] = refl
 record_at-pieces v (p ∷ ps) = record_at-append v.unit p.chunks (chunks_of ps) ∙ ap (λ z. or_own (record_at v.unit p.chunks) z) (record_at-pieces v ps)
-
-pub only_mine-append : (v : Frame) (x y : List ℕ) → only_mine v (x ++ y) ≡ only_mine v x ++ only_mine v y
-only_mine-append v [] y = refl
-only_mine-append v (p ∷ x) y =
-    split (v.mine p) (λ b. (if b then p ∷ only_mine v (x ++ y) else only_mine v (x ++ y)) ≡ (if b then p ∷ only_mine v x else only_mine v x) ++ only_mine v y)
-    (λ _. ap (λ z. p ∷ z) (only_mine-append v x y)) (λ _. only_mine-append v x y)
-
-pub add-append : {X : Type 0} (o : Option X) (x y : List X) → add o (x ++ y) ≡ add o x ++ y
-add-append None x y = refl
-add-append (Some a) x y = refl
-
-view-append : {R : Type 0} (v : Frame) (x y : List (Msg R)) → view v (x ++ y) ≡ view v x ++ view v y
-view-append v [] y = refl
-view-append v (m ∷ x) y = ap (λ z. add (seen v m) z) (view-append v x y) ∙ add-append (seen v m) (view v x) (view v y)
 
 pub sent_for-append : {M : Type 0} (r : ℕ) (x y : List (ℕ × M)) → sent_for r (x ++ y) ≡ sent_for r x ++ sent_for r y
 sent_for-append r [] y = refl
@@ -84,188 +71,176 @@ r_fwd to p = M_forward p to
 abbrev r_put : {R : Type 0} → ℕ → RPiece R → Msg R
 r_put n p = M_put n p false
 
-module _ {R : Type 0} (o : Op) (mine : ℕ → Bool) (u : Unit) (t : NodesDiffer o) where
-  view_puts : (fr : List (RPiece R)) → view (frame_of o mine u) (map (r_put o.num) fr) ≡ map next (map (see (frame_of o mine u)) fr)
-  view_puts [] = refl
-  view_puts (p ∷ fr) = let n = t.num in rw n (ap (λ z. next (see (frame_of o mine u) p) ∷ z) (view_puts fr))
+module _ (o : Op) (mine : ℕ → Bool) (u : Unit) where
+  abbrev v : Frame
+  v = frame_of o mine u
 
-  view_to_b : (f : List ℕ) → view (frame_of o mine u) (map (r_fwd {R = R} o.dst) f) ≡ map (λ p. fwd p At_b) (only_mine (frame_of o mine u) f)
-  view_to_b [] = refl
-  view_to_b (p ∷ f) =
-      let a = t.dst_src in let b = t.dst in
-      split (mine p) (λ c. add (where_true c (sends_to (frame_of o mine u) o.dst (fwd {R = R} p))) (view (frame_of o mine u) (map (r_fwd {R = R} o.dst) f))
-      ≡ map (λ p. fwd p At_b) (if c then p ∷ only_mine (frame_of o mine u) f else only_mine (frame_of o mine u) f))
-      (λ _. rw (a, b) (ap (λ z. Forward At_b p ∷ z) (view_to_b f))) (λ _. view_to_b f)
+  module _ {R : Type 0} (t : NodesDiffer o) where
+    view_puts : (fr : List (RPiece R)) → view v (map (r_put o.num) fr) ≡ map next (map (see v) fr)
+    view_puts [] = refl
+    view_puts (p ∷ fr) = let n = t.num in rw n (ap (λ z. next (see v p) ∷ z) (view_puts fr))
 
-  view_to_a : (f : List ℕ) → view (frame_of o mine u) (map (r_fwd {R = R} o.src) f) ≡ map (λ p. fwd p At_a) (only_mine (frame_of o mine u) f)
-  view_to_a [] = refl
-  view_to_a (p ∷ f) =
-      let a = t.src in
-      split (mine p) (λ c. add (where_true c (sends_to (frame_of o mine u) o.src (fwd {R = R} p))) (view (frame_of o mine u) (map (r_fwd {R = R} o.src) f))
-      ≡ map (λ p. fwd p At_a) (if c then p ∷ only_mine (frame_of o mine u) f else only_mine (frame_of o mine u) f))
-      (λ _. rw a (ap (λ z. Forward At_a p ∷ z) (view_to_a f))) (λ _. view_to_a f)
+    view_forwards : (to : ℕ) (w : Where) → ((p : ℕ) → sends_to v to (fwd {R = R} p) ≡ fwd p w) → (f : List ℕ)
+        → view v (map (r_fwd {R = R} to) f) ≡ map (λ p. fwd p w) (only_mine v f)
+    view_forwards to w is [] = refl
+    view_forwards to w is (p ∷ f) =
+        split (mine p) (λ c. add (where_true c (sends_to v to (fwd {R = R} p))) (view v (map (r_fwd {R = R} to) f))
+        ≡ map (λ p. fwd p w) (if c then p ∷ only_mine v f else only_mine v f))
+        (λ _. ap (λ x. x ∷ view v (map (r_fwd {R = R} to) f)) (is p) ∙ ap (λ z. fwd p w ∷ z) (view_forwards to w is f))
+        (λ _. view_forwards to w is f)
 
-  -- nothing is sent
-  pub quiet : (phase : RPhase R) (f : List ℕ) → Sees (frame_of o mine u) (record { phase = phase; store = f; sends = [] })
-      (goes (see_phase (frame_of o mine u) phase) (only_mine (frame_of o mine u) f))
-  quiet phase f = record { phase = refl; store = refl; to_a = refl; to_b = refl; to_s = refl; others = λ j fj tj zj. refl }
+    -- nothing is sent
+    pub quiet : (phase : RPhase R) (f : List ℕ) → Sees v (record { phase = phase; store = f; sends = [] }) (goes (see_phase v phase) (only_mine v f))
+    quiet phase f = record { phase = refl; store = refl; to_a = refl; to_b = refl; to_s = refl; others = λ j fj tj zj. refl }
 
-  -- one message alone, to the source, to the destination or to the switch
-  to_source : (phase : RPhase R) (f : List ℕ) (m : Msg R) (x : Item R) → seen (frame_of o mine u) m ≡ Some x → Sees (frame_of o mine u)
-      (r_goes phase f ((o.src, m) ∷ [])) (record (goes (see_phase (frame_of o mine u) phase) (only_mine (frame_of o mine u) f)) { to_a = x ∷ [] })
-  to_source phase f m x e =
-      let a = t.src in
-      let b = t.src_dst in
-      let c = t.src_0 in record { phase = refl; store = refl; to_a = rw (a, e) refl; to_b = rw b refl; to_s = rw c refl; others = λ j fj tj zj. rw fj refl }
+    -- one message alone, to the source, to the destination or to the switch
+    to_source : (phase : RPhase R) (f : List ℕ) (m : Msg R) (x : Item R) → seen v m ≡ Some x → Sees v
+        (r_goes phase f ((o.src, m) ∷ [])) (record (goes (see_phase v phase) (only_mine v f)) { to_a = x ∷ [] })
+    to_source phase f m x e =
+        let a = t.src in
+        let b = t.src_dst in
+        let c = t.src_0 in record { phase = refl; store = refl; to_a = rw (a, e) refl; to_b = rw b refl; to_s = rw c refl; others = λ j fj tj zj. rw fj refl }
 
-  to_dest : (phase : RPhase R) (f : List ℕ) (m : Msg R) (x : Item R) → seen (frame_of o mine u) m ≡ Some x → Sees (frame_of o mine u)
-      (r_goes phase f ((o.dst, m) ∷ [])) (record (goes (see_phase (frame_of o mine u) phase) (only_mine (frame_of o mine u) f)) { to_b = x ∷ [] })
-  to_dest phase f m x e =
-      let a = t.dst in
-      let b = t.dst_src in
-      let c = t.dst_0 in record { phase = refl; store = refl; to_a = rw b refl; to_b = rw (a, e) refl; to_s = rw c refl; others = λ j fj tj zj. rw tj refl }
+    to_dest : (phase : RPhase R) (f : List ℕ) (m : Msg R) (x : Item R) → seen v m ≡ Some x → Sees v
+        (r_goes phase f ((o.dst, m) ∷ [])) (record (goes (see_phase v phase) (only_mine v f)) { to_b = x ∷ [] })
+    to_dest phase f m x e =
+        let a = t.dst in
+        let b = t.dst_src in
+        let c = t.dst_0 in record { phase = refl; store = refl; to_a = rw b refl; to_b = rw (a, e) refl; to_s = rw c refl; others = λ j fj tj zj. rw tj refl }
 
-  to_switch : (phase : RPhase R) (f : List ℕ) (m : Msg R) (x : Item R) → seen (frame_of o mine u) m ≡ Some x → Sees (frame_of o mine u)
-      (r_goes phase f ((0, m) ∷ [])) (record (goes (see_phase (frame_of o mine u) phase) (only_mine (frame_of o mine u) f)) { to_s = x ∷ [] })
-  to_switch phase f m x e =
-      let a = t.0_src in
-      let b = t.0_dst in record { phase = refl; store = refl; to_a = rw a refl; to_b = rw b refl; to_s = rw e refl; others = λ j fj tj zj. rw zj refl }
+    to_switch : (phase : RPhase R) (f : List ℕ) (m : Msg R) (x : Item R) → seen v m ≡ Some x → Sees v
+        (r_goes phase f ((0, m) ∷ [])) (record (goes (see_phase v phase) (only_mine v f)) { to_s = x ∷ [] })
+    to_switch phase f m x e =
+        let a = t.0_src in
+        let b = t.0_dst in record { phase = refl; store = refl; to_a = rw a refl; to_b = rw b refl; to_s = rw e refl; others = λ j fj tj zj. rw zj refl }
 
-  by_num : (x : Item R) → where_true (o.num == o.num) x ≡ Some x
-  by_num x = let n = t.num in rw n refl
+    by_num : (x : Item R) → where_true (o.num == o.num) x ≡ Some x
+    by_num x = let n = t.num in rw n refl
 
-  -- the stored packets go to a side, and a message to the switch after them
-  sent_on : (phase : RPhase R) (f : List ℕ) (to : ℕ) (w : Where) (m : Msg R) (x : Item R) → seen (frame_of o mine u) m ≡ Some x
-      → view (frame_of o mine u) (map (r_fwd {R = R} to) f) ≡ map (λ p. fwd p w) (only_mine (frame_of o mine u) f)
-      → Sees (frame_of o mine u) (r_goes phase f (map (forward_to to) f ++ (0, m) ∷ []))
-      (record (goes (see_phase (frame_of o mine u) phase) (only_mine (frame_of o mine u) f))
-      { to_s = map (λ p. fwd p w) (only_mine (frame_of o mine u) f) ++ x ∷ [] })
-  sent_on phase f to w m x e forwards =
-      let a = t.0_src in let b = t.0_dst in
-      let tail : List (ℕ × Msg R) = (0, m) ∷ [] in
-      record {
-        phase = refl;
-        store = refl;
-        to_a = ap (view (frame_of o mine u))
-            (sent_for-append o.src (map (forward_to to) f) tail ∙ ap (λ z. z ++ sent_for o.src tail) (none_to o.src 0 (r_fwd to) f a)) ∙ rw a refl;
-        to_b = ap (view (frame_of o mine u))
-            (sent_for-append o.dst (map (forward_to to) f) tail ∙ ap (λ z. z ++ sent_for o.dst tail) (none_to o.dst 0 (r_fwd to) f b)) ∙ rw b refl;
-        to_s = ap (view (frame_of o mine u))
-            (sent_for-append 0 (map (forward_to to) f) tail ∙ ap (λ z. z ++ sent_for 0 tail) (all_to 0 0 (r_fwd to) f refl))
-            ∙ view-append (frame_of o mine u) (map (r_fwd to) f) (m ∷ [])
-            ∙ ap (λ z. z ++ view (frame_of o mine u) (m ∷ [])) forwards
-            ∙ rw e refl;
-        others = λ j fj tj zj. ap (view (frame_of o mine u))
-            (sent_for-append j (map (forward_to to) f) tail ∙ ap (λ z. z ++ sent_for j tail) (none_to j 0 (r_fwd to) f zj)) ∙ rw zj refl;
-      }
-
-  -- each word of the network's table is seen as the machine's
-  follows : (keep : Bool) (f : List ℕ) → Follow (r_words {R = R} o f) (words keep (only_mine (frame_of o mine u) f)) f (only_mine (frame_of o mine u) f)
-      (see (frame_of o mine u)) Ended (Sees (frame_of o mine u)) (Sees (frame_of o mine u))
-  follows keep f =
-      let a = t.dst_src in let b = t.dst in let n = t.num in let s = t.src in
-      record {
-        last = λ c. refl;
-        done = refl;
-        nothing = λ phase. quiet phase f;
-        stream = to_source (Streaming [] [] false Shut) f (M_stream o.num) Stream (by_num Stream);
-        restore = λ why ps. to_source (Restoring why) f (M_restore o.num (chunks_of ps)) (Restore (pick (map (see (frame_of o mine u)) ps)))
-            (by_num (Restore (record_at u (chunks_of ps))) ∙ ap (λ r. Some (Restore r)) (record_at-pieces (frame_of o mine u) ps));
-        hold_at_source = λ why. to_source (Returning why) f (M_enable o.num Buffers) (Enable Buffers) (by_num (Enable Buffers));
-        ask = λ fz fr came p. to_dest (Streaming fz fr came (Asked p.last)) f (M_put o.num p true) (Put (see (frame_of o mine u) p) true)
-            (by_num (Put (see (frame_of o mine u) p) true));
-        put = λ fz fr came. record {
+    -- the stored packets go to a side, and a message to the switch after them
+    sent_on : (phase : RPhase R) (f : List ℕ) (to : ℕ) (w : Where) (m : Msg R) (x : Item R) → seen v m ≡ Some x
+        → view v (map (r_fwd {R = R} to) f) ≡ map (λ p. fwd p w) (only_mine v f)
+        → Sees v (r_goes phase f (map (forward_to to) f ++ (0, m) ∷ []))
+        (record (goes (see_phase v phase) (only_mine v f)) { to_s = map (λ p. fwd p w) (only_mine v f) ++ x ∷ [] })
+    sent_on phase f to w m x e forwards =
+        let tail : List (ℕ × Msg R) = (0, m) ∷ [] in
+        let none : (r : ℕ) → (0 == r) ≡ false → view v (sent_for r (map (forward_to to) f ++ tail)) ≡ [] = λ r off.
+        ap (view v) (sent_for-append r (map (forward_to to) f) tail ∙ ap (λ z. z ++ sent_for r tail) (none_to r 0 (r_fwd to) f off)) ∙ rw off refl in
+        record {
           phase = refl;
           store = refl;
-          to_a = ap (view (frame_of o mine u)) (none_to o.src o.dst (r_put o.num) fr t.dst_src);
-          to_b = ap (view (frame_of o mine u)) (all_to o.dst o.dst (r_put o.num) fr t.dst) ∙ view_puts fr;
-          to_s = ap (view (frame_of o mine u)) (none_to 0 o.dst (r_put o.num) fr t.dst_0);
-          others = λ j fj tj zj. ap (view (frame_of o mine u)) (none_to j o.dst (r_put o.num) fr tj);
-        };
-        hold_at_destination = to_dest Holding f (M_enable o.num Buffers) (Enable Buffers) (by_num (Enable Buffers));
-        release = sent_on Passing f o.dst At_b (M_install o.num o.src o.dst) Install (rw (n, s, b) refl) (view_to_b f);
-        give_back = λ why. sent_on (Undoing why) f o.src At_a (M_fence_to o.num o.src) (Fence_to At_a) (rw (n, s) refl) (view_to_a f);
-        fence = to_switch Ending f (M_fence_to o.num o.dst) (Fence_to At_b) (rw (a, b) (by_num (Fence_to At_b)));
-        keeps = λ sees. sees;
-        empties = λ sees. record { phase = sees.phase; store = refl; to_a = sees.to_a; to_b = sees.to_b; to_s = sees.to_s; others = sees.others };
-      }
+          to_a = none o.src t.0_src;
+          to_b = none o.dst t.0_dst;
+          to_s = ap (view v) (sent_for-append 0 (map (forward_to to) f) tail ∙ ap (λ z. z ++ sent_for 0 tail) (all_to 0 0 (r_fwd to) f refl))
+              ∙ filter_map-append _ (map (r_fwd to) f) (m ∷ []) ∙ ap (λ z. z ++ view v (m ∷ [])) forwards ∙ rw e refl;
+          others = λ j fj tj zj. none j zj;
+        }
 
-  event_mine : (phase : RPhase R) (f : List ℕ) (p : ℕ) → mine p ≡ true → Sees (frame_of o mine u) (on_event (r_words o f) phase f p)
-      (on_event (words true (only_mine (frame_of o mine u) f)) (see_phase (frame_of o mine u) phase) (only_mine (frame_of o mine u) f) p)
-  event_mine phase f p is =
-      let a = t.dst_src in let b = t.dst in
-      let e = only_mine-append (frame_of o mine u) f (p ∷ []) in
-      event_follows (follows true f) p p (to_switch Passing f (M_forward p o.dst) (Forward At_b p) (rw (is, a, b) refl))
-      (λ n m sees. record { phase = sees.phase; store = rw (e, is) refl; to_a = sees.to_a; to_b = sees.to_b; to_s = sees.to_s; others = sees.others }) phase
+    -- each word of the network's table is seen as the machine's
+    follows : (keep : Bool) (f : List ℕ) → Follow (r_words {R = R} o f) (words keep (only_mine v f)) f (only_mine v f)
+        (see v) Ended (Sees v) (Sees v)
+    follows keep f =
+        let a = t.dst_src in let b = t.dst in let n = t.num in let s = t.src in
+        record {
+          last = λ c. refl;
+          done = refl;
+          nothing = λ phase. quiet phase f;
+          stream = to_source (Streaming [] [] false Shut) f (M_stream o.num) Stream (by_num Stream);
+          restore = λ why ps. to_source (Restoring why) f (M_restore o.num (chunks_of ps)) (Restore (pick (map (see v) ps)))
+              (by_num (Restore (record_at u (chunks_of ps))) ∙ ap (λ r. Some (Restore r)) (record_at-pieces v ps));
+          hold_at_source = λ why. to_source (Returning why) f (M_enable o.num Buffers) (Enable Buffers) (by_num (Enable Buffers));
+          ask = λ fz fr came p. to_dest (Streaming fz fr came (Asked p.last)) f (M_put o.num p true) (Put (see v p) true) (by_num (Put (see v p) true));
+          put = λ fz fr came. record {
+            phase = refl;
+            store = refl;
+            to_a = ap (view v) (none_to o.src o.dst (r_put o.num) fr t.dst_src);
+            to_b = ap (view v) (all_to o.dst o.dst (r_put o.num) fr t.dst) ∙ view_puts fr;
+            to_s = ap (view v) (none_to 0 o.dst (r_put o.num) fr t.dst_0);
+            others = λ j fj tj zj. ap (view v) (none_to j o.dst (r_put o.num) fr tj);
+          };
+          hold_at_destination = to_dest Holding f (M_enable o.num Buffers) (Enable Buffers) (by_num (Enable Buffers));
+          release = sent_on Passing f o.dst At_b (M_install o.num o.src o.dst) Install (rw (n, s, b) refl) (view_forwards o.dst At_b (λ p. rw (a, b) refl) f);
+          give_back = λ why. sent_on (Undoing why) f o.src At_a (M_fence_to o.num o.src) (Fence_to At_a) (rw (n, s) refl)
+              (view_forwards o.src At_a (λ p. rw s refl) f);
+          fence = to_switch Ending f (M_fence_to o.num o.dst) (Fence_to At_b) (rw (a, b) (by_num (Fence_to At_b)));
+          keeps = λ sees. sees;
+          empties = λ sees. record { phase = sees.phase; store = refl; to_a = sees.to_a; to_b = sees.to_b; to_s = sees.to_s; others = sees.others };
+        }
 
-  event_other : (phase : RPhase R) (f : List ℕ) (p : ℕ) → mine p ≡ false
-      → Sees (frame_of o mine u) (on_event (r_words o f) phase f p) (goes (see_phase (frame_of o mine u) phase) (only_mine (frame_of o mine u) f))
-  event_other Passing f p off =
-      let a = t.0_src in
-      let b = t.0_dst in record { phase = refl; store = refl; to_a = rw a refl; to_b = rw b refl; to_s = rw off refl; others = λ j fj tj zj. rw zj refl }
-  event_other phase f p off =
-      let e = only_mine-append (frame_of o mine u) f (p ∷ []) in
-      record {
-        phase = refl;
-        store = rw (e, off) (append-nil (only_mine (frame_of o mine u) f));
-        to_a = refl;
-        to_b = refl;
-        to_s = refl;
-        others = λ j fj tj zj. refl;
-      }
+    event_mine : (phase : RPhase R) (f : List ℕ) (p : ℕ) → mine p ≡ true → Sees v (on_event (r_words o f) phase f p)
+        (on_event (words true (only_mine v f)) (see_phase v phase) (only_mine v f) p)
+    event_mine phase f p is =
+        let a = t.dst_src in let b = t.dst in
+        let e = filter-append mine f (p ∷ []) in
+        event_follows (follows true f) p p (to_switch Passing f (M_forward p o.dst) (Forward At_b p) (rw (is, a, b) refl))
+        (λ n m sees. record { phase = sees.phase; store = rw (e, is) refl; to_a = sees.to_a; to_b = sees.to_b; to_s = sees.to_s; others = sees.others }) phase
 
-  piece_seen : (phase : RPhase R) (f : List ℕ) (p : RPiece R) → Sees (frame_of o mine u) (on_piece (r_words o f) phase p)
-      (on_piece (words true (only_mine (frame_of o mine u) f)) (see_phase (frame_of o mine u) phase) (see (frame_of o mine u) p))
-  piece_seen phase f p =
-      let n = t.num in let h = is_among-units u p.chunks in
-      piece_follows (follows true f) p refl refl (λ ph. to_source ph f (M_delete o.num (map chunk_unit p.chunks))
-      (Delete (is_some (record_at u p.chunks))) (rw (n, h) refl)) phase
+    event_other : (phase : RPhase R) (f : List ℕ) (p : ℕ) → mine p ≡ false
+        → Sees v (on_event (r_words o f) phase f p) (goes (see_phase v phase) (only_mine v f))
+    event_other Passing f p off =
+        let a = t.0_src in
+        let b = t.0_dst in record { phase = refl; store = refl; to_a = rw a refl; to_b = rw b refl; to_s = rw off refl; others = λ j fj tj zj. rw zj refl }
+    event_other phase f p off =
+        let e = filter-append mine f (p ∷ []) in
+        record {
+          phase = refl;
+          store = rw (e, off) (append-nil (only_mine v f));
+          to_a = refl;
+          to_b = refl;
+          to_s = refl;
+          others = λ j fj tj zj. refl;
+        }
 
-  -- what the machine's controller does on what the unit sees of a message
-  abbrev pub did_a : RPhase R → List ℕ → Option (Item R) → ControllerTurn R
-  did_a phase f None = goes (see_phase (frame_of o mine u) phase) (only_mine (frame_of o mine u) f)
-  did_a phase f (Some x) = from_source (see_phase (frame_of o mine u) phase) (only_mine (frame_of o mine u) f) x
+    piece_seen : (phase : RPhase R) (f : List ℕ) (p : RPiece R) → Sees v (on_piece (r_words o f) phase p)
+        (on_piece (words true (only_mine v f)) (see_phase v phase) (see v p))
+    piece_seen phase f p =
+        let n = t.num in let h = is_among-units u p.chunks in
+        piece_follows (follows true f) p refl refl (λ ph. to_source ph f (M_delete o.num (map chunk_unit p.chunks))
+        (Delete (is_some (record_at u p.chunks))) (rw (n, h) refl)) phase
 
-  abbrev pub did_b : RPhase R → List ℕ → Option (Item R) → ControllerTurn R
-  did_b phase f None = goes (see_phase (frame_of o mine u) phase) (only_mine (frame_of o mine u) f)
-  did_b phase f (Some x) = from_destination o.keep (see_phase (frame_of o mine u) phase) (only_mine (frame_of o mine u) f) x
+    -- what the machine's controller does on what the unit sees of a message
+    abbrev pub did_a : RPhase R → List ℕ → Option (Item R) → ControllerTurn R
+    did_a phase f None = goes (see_phase v phase) (only_mine v f)
+    did_a phase f (Some x) = from_source (see_phase v phase) (only_mine v f) x
 
-  -- a message that a move takes from an instance has its number
-  abbrev pub Numbered : Msg R → Type 0
-  Numbered (M_event n p) = Prim.Unit {0}
-  Numbered (M_enabled n) = n ≡ o.num
-  Numbered (M_piece n p) = n ≡ o.num
-  Numbered (M_deleted n) = n ≡ o.num
-  Numbered (M_restored n) = n ≡ o.num
-  Numbered (M_fenced n) = n ≡ o.num
-  Numbered (M_put_ok n) = n ≡ o.num
-  Numbered (M_put_no n why cs) = n ≡ o.num
-  Numbered m = ⊥
+    abbrev pub did_b : RPhase R → List ℕ → Option (Item R) → ControllerTurn R
+    did_b phase f None = goes (see_phase v phase) (only_mine v f)
+    did_b phase f (Some x) = from_destination o.keep (see_phase v phase) (only_mine v f) x
 
-  pub from_source_seen : (phase : RPhase R) (f : List ℕ) (m : Msg R) → Numbered m
-      → Sees (frame_of o mine u) (r_from_source o phase f m) (did_a phase f (seen (frame_of o mine u) m))
-  from_source_seen phase f (M_event n p) h =
-      split (mine p) (λ b. Sees (frame_of o mine u) (on_event (r_words o f) phase f p) (did_a phase f (where_true b (Event p)))) (λ is. event_mine phase f p is)
-      (λ off. event_other phase f p off)
-  from_source_seen phase f (M_enabled n) h = let e = by_num Enabled in rw (h, e) (source_enabled_follows (follows true f) phase)
-  from_source_seen phase f (M_piece n p) h = let e = by_num (Piece (see (frame_of o mine u) p)) in rw (h, e) (piece_seen phase f p)
-  from_source_seen phase f (M_deleted n) h = let e = by_num Deleted in rw (h, e) (deleted_follows (follows true f) phase)
-  from_source_seen phase f (M_restored n) h = let e = by_num Restored in rw (h, e) (restored_follows (follows true f) phase)
-  from_source_seen phase f (M_fenced n) h = let e = by_num Fenced in rw (h, e) (source_fenced_follows (follows true f) phase (λ why is. refl))
-  from_source_seen phase f (M_put_ok n) h = let e = by_num Put_ok in rw (h, e) (quiet phase f)
-  from_source_seen phase f (M_put_no n why cs) h = let e = by_num (Put_no why (record_at u cs)) in rw (h, e) (quiet phase f)
-  from_source_seen phase f m h = absurd h
+    -- a message that a move takes from an instance has its number
+    abbrev pub Numbered : Msg R → Type 0
+    Numbered (M_event n p) = Prim.Unit {0}
+    Numbered (M_enabled n) = n ≡ o.num
+    Numbered (M_piece n p) = n ≡ o.num
+    Numbered (M_deleted n) = n ≡ o.num
+    Numbered (M_restored n) = n ≡ o.num
+    Numbered (M_fenced n) = n ≡ o.num
+    Numbered (M_put_ok n) = n ≡ o.num
+    Numbered (M_put_no n why cs) = n ≡ o.num
+    Numbered m = ⊥
 
-  pub from_destination_seen : (phase : RPhase R) (f : List ℕ) (m : Msg R) → Numbered m
-      → Sees (frame_of o mine u) (r_from_destination o phase f m) (did_b phase f (seen (frame_of o mine u) m))
-  from_destination_seen phase f (M_event n p) h =
-      split (mine p) (λ b. Sees (frame_of o mine u) (r_goes phase f []) (did_b phase f (where_true b (Event p)))) (λ _. quiet phase f) (λ _. quiet phase f)
-  from_destination_seen phase f (M_enabled n) h = let e = by_num Enabled in rw (h, e) (destination_enabled_follows (follows o.keep f) phase)
-  from_destination_seen phase f (M_piece n p) h = let e = by_num (Piece (see (frame_of o mine u) p)) in rw (h, e) (quiet phase f)
-  from_destination_seen phase f (M_deleted n) h = let e = by_num Deleted in rw (h, e) (quiet phase f)
-  from_destination_seen phase f (M_restored n) h = let e = by_num Restored in rw (h, e) (quiet phase f)
-  from_destination_seen phase f (M_fenced n) h = let e = by_num Fenced in rw (h, e) (destination_fenced_follows (follows o.keep f) phase)
-  from_destination_seen phase f (M_put_ok n) h = let e = by_num Put_ok in rw (h, e) (put_ok_follows (follows o.keep f) refl phase)
-  from_destination_seen phase f (M_put_no n why cs) h = let e = by_num (Put_no why (record_at u cs)) in
-      rw (h, e) (put_no_follows (follows o.keep f) why (put_back cs) (part_back (record_at u cs)) (λ last. refl) phase)
-  from_destination_seen phase f m h = absurd h
+    pub from_source_seen : (phase : RPhase R) (f : List ℕ) (m : Msg R) → Numbered m → Sees v (r_from_source o phase f m) (did_a phase f (seen v m))
+    from_source_seen phase f (M_event n p) h =
+        split (mine p) (λ b. Sees v (on_event (r_words o f) phase f p) (did_a phase f (where_true b (Event p)))) (λ is. event_mine phase f p is)
+        (λ off. event_other phase f p off)
+    from_source_seen phase f (M_enabled n) h = let e = by_num Enabled in rw (h, e) (source_enabled_follows (follows true f) phase)
+    from_source_seen phase f (M_piece n p) h = let e = by_num (Piece (see v p)) in rw (h, e) (piece_seen phase f p)
+    from_source_seen phase f (M_deleted n) h = let e = by_num Deleted in rw (h, e) (deleted_follows (follows true f) phase)
+    from_source_seen phase f (M_restored n) h = let e = by_num Restored in rw (h, e) (restored_follows (follows true f) phase)
+    from_source_seen phase f (M_fenced n) h = let e = by_num Fenced in rw (h, e) (source_fenced_follows (follows true f) phase (λ why is. refl))
+    from_source_seen phase f (M_put_ok n) h = let e = by_num Put_ok in rw (h, e) (quiet phase f)
+    from_source_seen phase f (M_put_no n why cs) h = let e = by_num (Put_no why (record_at u cs)) in rw (h, e) (quiet phase f)
+    from_source_seen phase f m h = absurd h
+
+    pub from_destination_seen : (phase : RPhase R) (f : List ℕ) (m : Msg R) → Numbered m → Sees v (r_from_destination o phase f m) (did_b phase f (seen v m))
+    from_destination_seen phase f (M_event n p) h =
+        split (mine p) (λ b. Sees v (r_goes phase f []) (did_b phase f (where_true b (Event p)))) (λ _. quiet phase f) (λ _. quiet phase f)
+    from_destination_seen phase f (M_enabled n) h = let e = by_num Enabled in rw (h, e) (destination_enabled_follows (follows o.keep f) phase)
+    from_destination_seen phase f (M_piece n p) h = let e = by_num (Piece (see v p)) in rw (h, e) (quiet phase f)
+    from_destination_seen phase f (M_deleted n) h = let e = by_num Deleted in rw (h, e) (quiet phase f)
+    from_destination_seen phase f (M_restored n) h = let e = by_num Restored in rw (h, e) (quiet phase f)
+    from_destination_seen phase f (M_fenced n) h = let e = by_num Fenced in rw (h, e) (destination_fenced_follows (follows o.keep f) phase)
+    from_destination_seen phase f (M_put_ok n) h = let e = by_num Put_ok in rw (h, e) (put_ok_follows (follows o.keep f) refl phase)
+    from_destination_seen phase f (M_put_no n why cs) h = let e = by_num (Put_no why (record_at u cs)) in
+        rw (h, e) (put_no_follows (follows o.keep f) why (put_back cs) (part_back (record_at u cs)) (λ last. refl) phase)
+    from_destination_seen phase f m h = absurd h

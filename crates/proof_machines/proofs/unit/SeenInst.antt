@@ -1,4 +1,7 @@
 -- Of an instance's rows on pieces one unit sees the machine's instance. Of the table that needs four laws of look-ups.
+use Rattle.proof_machines.proofs.Tests.{split, by_if}
+use Rattle.actor_net.proofs.WeightLaws.{Each}
+use Rattle.proof_machines.proofs.unit.Machine.{Put_ok}
 use Rattle.proof_machines.proofs.unit.Words.{◌≡◌, ℕ, Bool, true, false, Option, Some, None, List, [], ◌∷◌, map, length, refl, ap, ◌∙◌, if◌then◌else◌, ◌==◌}
 use Rattle.proof_machines.proofs.unit.Words.{option_to_list, is_among, Answer, Where, Steps, joined, Part, Stream, Delete, Put, Restore, Inst, Did, inst_does}
 use Rattle.proof_machines.proofs.unit.Words.{ArePiecesOf, Unit}
@@ -35,6 +38,13 @@ module _ {R : Type 0} (F : Steps R) (B : Tables R) where
   r_put o false refuse p t = (B.restore p.chunks t, if p.last then M_put_ok o ∷ [] else [])
   r_put o true None p t = (B.import p.chunks t, M_put_ok o ∷ [])
   r_put o true (Some why) p t = (t, M_put_no o why p.chunks ∷ [])
+
+  -- what holds of each of its answers holds of what is sent
+  pub put_answers : (P : Msg R → Type 0) (o : ℕ) (first : Bool) (refuse : Option Answer) (p : RPiece R) (t : B.T) → P (M_put_ok o)
+      → ((why : Answer) → P (M_put_no o why p.chunks)) → Each P (r_put o first refuse p t).1
+  put_answers P o false refuse p t taken refused = by_if (Each P) p.last (taken, tt) tt
+  put_answers P o true None p t taken refused = (taken, tt)
+  put_answers P o true (Some why) p t taken refused = (refused why, tt)
 
   -- the record of the unit, what is sent, and nothing else of it
   pub record SeesInstance (v : Frame) (i : Inst R) (real : B.T × List (Msg R)) (did : Did R) : Type 0 where
@@ -78,27 +88,20 @@ module _ {R : Type 0} (F : Steps R) (B : Tables R) where
       ran = refl;
     }
 
-    pub put_seen : (p : RPiece R) (first last : Bool) (parts : List (Part R)) (refuse : Option Answer) → p.last ≡ last
+    pub put_seen : (p : RPiece R) (first : Bool) (parts : List (Part R)) (refuse : Option Answer)
         → SeesInstance v i (r_put v.move first refuse p t) (inst_does F w parts refuse i (Put (see v p) first))
-    put_seen p false true parts refuse e = rw e (record {
+    put_seen p false parts refuse = record {
       live = laws.restored v.unit p.chunks t ∙ ap (λ o. joined F (record_at v.unit p.chunks) o) is;
       rule = refl;
       held = refl;
-      to_c = rw same refl;
+      to_c = split p.last (λ b. view v (if b then M_put_ok v.move ∷ [] else []) ≡ (if b then Put_ok ∷ [] else [])) (λ _. rw same refl) (λ _. refl);
       ran = refl;
-    })
-    put_seen p false false parts refuse e = rw e (record {
-      live = laws.restored v.unit p.chunks t ∙ ap (λ o. joined F (record_at v.unit p.chunks) o) is;
-      rule = refl;
-      held = refl;
-      to_c = refl;
-      ran = refl;
-    })
-    put_seen p true last parts None e = record {
+    }
+    put_seen p true parts None = record {
       live = laws.imported v.unit p.chunks t ∙ ap (λ o. joined F (record_at v.unit p.chunks) o) is;
       rule = refl;
       held = refl;
       to_c = rw same refl;
       ran = refl;
     }
-    put_seen p true last parts (Some why) e = record { live = is; rule = refl; held = refl; to_c = rw same refl; ran = refl }
+    put_seen p true parts (Some why) = record { live = is; rule = refl; held = refl; to_c = rw same refl; ran = refl }

@@ -1,34 +1,35 @@
 -- Where the packets of a unit stand at a seat: those at the instance that the switch sends it to come last, and each kind stands at
 -- one side.
 use Rattle.proof_machines.proofs.unit.Words.{◌≡◌, ℕ, Bool, true, false, List, [], ◌∷◌, ◌++◌, map, refl, sym, ap, ◌∙◌, append_assoc, append-nil, Where, At_a}
-use Rattle.proof_machines.proofs.unit.Words.{At_b, At_c, Steps, Item, Carry, Pass, Stray, Inst, Phase, Passing, Ending, Undoing, Over, State, firsts, nil_left}
-use Rattle.proof_machines.proofs.unit.Words.{nil_right, Stage, At_rest, Streams, Is_shut, Is_agreed, Laying, Turned, Fenced_a, Ending_b, Fence_b, Turned_loose}
-use Rattle.proof_machines.proofs.unit.Words.{Fenced_loose, Ending_loose, Fence_loose, Fenced_b, Moved, shape, path, all_of, to_a, to_b}
-use Rattle.proof_machines.proofs.unit.Path.{passes_in, carries, events_in, forwards, path_of, path_is, no_passes, all_carries, no_carries}
+use Rattle.proof_machines.proofs.unit.Words.{At_b, At_c, Steps, Item, Carry, Pass, Forward, Fence_to, Stray, Inst, Phase, Passing, Ending, Undoing, Over, State}
+use Rattle.proof_machines.proofs.unit.Words.{firsts, nil_left, nil_right, Stage, At_rest, Streams, Is_shut, Is_agreed, Laying, Turned, Fenced_a, Ending_b}
+use Rattle.proof_machines.proofs.unit.Words.{Fence_b, Turned_loose, Fenced_loose, Ending_loose, Fence_loose, Fenced_b, Moved, shape, path, all_of, to_a, to_b}
+use Rattle.proof_machines.proofs.unit.Path.{passes_in, carries, events_in, forwards, places, none_before, HasNone, none_of, path_of, path_is, no_passes}
+use Rattle.proof_machines.proofs.unit.Path.{all_carries, no_carries}
 use Rattle.proof_machines.proofs.unit.DestinationUnits.{strip, DestinationUnit, shape_beside}
 use Rattle.proof_machines.proofs.unit.Away.{Away, shape_away}
 use Rattle.proof_machines.proofs.unit.Rests.{is_over}
 use Rattle.proof_machines.proofs.unit.Seats.{UnitSeat, Covered, Is_beside, Is_away, seat_shape, seat_path}
+use Rattle.proof_machines.proofs.unit.Lists.{all_pass}
+use Rattle.std.specs.List.{list_all}
 use Rattle.std.proofs.lemmas.List.Elements.{filter_map-append}
+use Rattle.std.proofs.lemmas.List.Folds.{list_all-append}
 
 -- what an instance holds, and behind it what comes to it by the rules
 abbrev pub at_side : {R : Type 0} → Inst R → List (Item R) → List ℕ
 at_side i link = i.held ++ carries link
-
--- the path, with what stands at instances in this order
-abbrev pub places : {R : Type 0} → State R → List ℕ → List ℕ
-places x last = passes_in x.sa ++ (passes_in x.sb ++ (forwards x.cs ++ (x.store ++ (events_in x.ac ++ last))))
 
 -- one of two lists has nothing
 pub data OneOf (xs ys : List ℕ) : Type 0 where
   First : ys ≡ [] → OneOf xs ys
   Second : xs ≡ [] → OneOf xs ys
 
--- nothing goes to another than A and B
-abbrev pub is_known : {R : Type 0} → List (Item R) → Bool
-is_known [] = true
-is_known (Stray ∷ xs) = false
-is_known (_ ∷ xs) = is_known xs
+-- the switch is sent nothing that goes to another than A and B
+abbrev pub for_switch : {R : Type 0} → Item R → Bool
+for_switch Stray = false
+for_switch (Forward At_c p) = false
+for_switch (Fence_to At_c) = false
+for_switch it = true
 
 -- what the controller stored has gone on, or nothing was stored yet
 abbrev pub is_released : {R : Type 0} → Phase R → Bool
@@ -49,7 +50,7 @@ pub record SidesStand {R : Type 0} (x : State R) (way : List ℕ) : Type 0 where
   pub third : passes_in x.sc ≡ []
   pub events_b : events_in x.bc ≡ []
   pub events_c : events_in x.cc ≡ []
-  pub known : is_known x.cs ≡ true
+  pub known : list_all for_switch x.cs ≡ true
   pub released : is_released x.phase ≡ true → x.store ≡ []
   pub last : Last x way
 
@@ -78,22 +79,15 @@ handed_at F (Moved d l k) = Second refl
 handed_at F (At_rest d l k) = First refl
 handed_at F s = First refl
 
-is_known-append : {R : Type 0} (xs ys : List (Item R)) → is_known xs ≡ true → is_known (xs ++ ys) ≡ is_known ys
-is_known-append [] ys e = refl
-is_known-append (Stray ∷ xs) ys e = cc
-is_known-append (x ∷ xs) ys e = is_known-append xs ys e
+to_b_known : (R : Type 0) (l : List ℕ) → list_all for_switch (map (to_b {R = R}) l) ≡ true
+to_b_known R l = all_pass for_switch to_b (λ p. refl) l
 
-to_b_known : (R : Type 0) (l : List ℕ) → is_known (map (to_b {R = R}) l) ≡ true
-to_b_known R [] = refl
-to_b_known R (p ∷ l) = to_b_known R l
+to_a_known : (R : Type 0) (l : List ℕ) → list_all for_switch (map (to_a {R = R}) l) ≡ true
+to_a_known R l = all_pass for_switch to_a (λ p. refl) l
 
-to_a_known : (R : Type 0) (l : List ℕ) → is_known (map (to_a {R = R}) l) ≡ true
-to_a_known R [] = refl
-to_a_known R (p ∷ l) = to_a_known R l
-
-known_at : {R : Type 0} (F : Steps R) (s : Stage F) → is_known (shape F s).cs ≡ true
+known_at : {R : Type 0} (F : Steps R) (s : Stage F) → list_all for_switch (shape F s).cs ≡ true
 known_at F (At_rest d l k) = refl
-known_at F s = first_of (simp (is_known-append, to_b_known, to_a_known), cc)
+known_at F s = first_of (simp (list_all-append, to_b_known, to_a_known), cc)
 
 -- what comes from the destination is no packet
 events_b_at : {R : Type 0} (F : Steps R) (s : Stage F) → events_in (shape F s).bc ≡ []
@@ -148,51 +142,6 @@ stage_stands F s = record {
   released = released_at F s;
   last = last_at F s;
 }
-
--- a path that has nothing has none at its first places, and none at its last
-record NoneBefore {R : Type 0} (x : State R) (last : List ℕ) : Type 0 where
-  passes_a : passes_in x.sa ≡ []
-  passes_b : passes_in x.sb ≡ []
-  forwards_s : forwards x.cs ≡ []
-  store : x.store ≡ []
-  events_a : events_in x.ac ≡ []
-  rest : last ≡ []
-
-none_before : {R : Type 0} (x : State R) (last : List ℕ) → places x last ≡ [] → NoneBefore x last
-none_before x last p0 =
-    let p1 = nil_right (passes_in x.sa) _ p0 in
-    let p2 = nil_right (passes_in x.sb) _ p1 in
-    let p3 = nil_right (forwards x.cs) _ p2 in
-    let p4 = nil_right x.store _ p3 in
-    record {
-      passes_a = nil_left (passes_in x.sa) _ p0;
-      passes_b = nil_left (passes_in x.sb) _ p1;
-      forwards_s = nil_left (forwards x.cs) _ p2;
-      store = nil_left x.store _ p3;
-      events_a = nil_left (events_in x.ac) _ p4;
-      rest = nil_right (events_in x.ac) _ p4;
-    }
-
--- A stage without any packet of the unit has none anywhere.
-record HasNone {R : Type 0} (x : State R) : Type 0 where
-  before : NoneBefore x (x.a.held ++ (carries x.sa ++ (x.b.held ++ carries x.sb)))
-  held_a : x.a.held ≡ []
-  carries_a : carries x.sa ≡ []
-  held_b : x.b.held ≡ []
-  carries_b : carries x.sb ≡ []
-
-none_of : {R : Type 0} (x : State R) → path_of x ≡ [] → HasNone x
-none_of x none =
-    let before = none_before x (x.a.held ++ (carries x.sa ++ (x.b.held ++ carries x.sb))) none in
-    let p1 = nil_right x.a.held _ before.rest in
-    let p2 = nil_right (carries x.sa) _ p1 in
-    record {
-      before = before;
-      held_a = nil_left x.a.held _ before.rest;
-      carries_a = nil_left (carries x.sa) _ p1;
-      held_b = nil_left x.b.held _ p2;
-      carries_b = nil_right x.b.held _ p2;
-    }
 
 bare_none : {R : Type 0} (F : Steps R) (s : Stage F) → all_of s ≡ [] → HasNone (shape F s)
 bare_none F s bare = none_of (shape F s) (path_is F s ∙ nil_right (firsts (shape F s).done) (path s) bare)

@@ -5,7 +5,7 @@ use Rattle.proof_machines.proofs.unit.Words.{PhaseOf, Freezing, Streaming, Holdi
 use Rattle.proof_machines.proofs.unit.Words.{Hold_at_destination, Release, Give_back, asking, push_on, release_row, all_put, is_nil, on_event}
 use Rattle.proof_machines.proofs.unit.Words.{on_source_enabled, on_piece, on_deleted, on_restored, on_source_fenced, on_put_ok, on_put_no}
 use Rattle.proof_machines.proofs.unit.Words.{on_destination_enabled, on_destination_fenced}
-use Rattle.actor_net.proofs.WeightLaws.{each-append}
+use Rattle.proof_machines.proofs.EachLaws.{each-append, each_any}
 use Rattle.move_op.specs.Phases.{Passing, Ending, Undoing, Over}
 use Rattle.move_op.specs.Table.{Stream, Restore, Put, Forward, Fence}
 
@@ -127,14 +127,10 @@ module _ {P C O N T : Type 0} {w : Words P C O N T} {Is : P → Type 0} {Fits : 
 abbrev pub Any : (X : Type 0) → X → Type 0
 Any X x = Unit {0}
 
-pub any_each : {X : Type 0} (xs : List X) → Each (Any X) xs
-any_each [] = tt
-any_each (x ∷ xs) = (tt, any_each xs)
-
 pub any_door : (d : Door) → DoorHas (Any Answer) d
 any_door (Refused why) = tt
 any_door d = tt
 
 pub any_phase : {C O : Type 0} (ph : PhaseOf C O) → PhaseHas (Any C) (Any Answer) (Any O) ph
-any_phase (Streaming a b came d) = (any_each a, (any_each b, any_door d))
+any_phase (Streaming a b came d) = (each_any a, (each_any b, any_door d))
 any_phase ph = tt

@@ -4,38 +4,39 @@ use Rattle.proof_machines.proofs.unit.Words.{◌≡◌, Bool, true, false, Optio
 use Rattle.proof_machines.proofs.unit.Words.{Part, pick, or_own, Item, Piece, Delete, delete, Mix, Ev, Pc, Dd, parts_in, pick-append, Stage, At_rest, Begun}
 use Rattle.proof_machines.proofs.unit.Words.{Frozen, Stream_goes, Streams, Restored_comes, Turn_goes, Turned_back, Returned, Fence_a, Fenced_back, Undone}
 use Rattle.proof_machines.proofs.unit.Words.{shape}
+use Rattle.std.specs.List.{list_any}
 use Rattle.proof_machines.proofs.unit.Lists as lists
-use Rattle.proof_machines.proofs.unit.Kept.{records_on-append, none_on_events, on_way}
+use Rattle.std.proofs.lemmas.List.Elements.{filter_map-append}
+use Rattle.proof_machines.proofs.unit.Kept.{none_on_events, on_way}
 use Rattle.proof_machines.proofs.unit.DestinationUnits.{c_live, beside_kept}
 use Rattle.proof_machines.proofs.unit.Away.{away_kept}
 use Rattle.proof_machines.proofs.unit.Seats.{UnitSeat, Covered, Is_beside, Is_away, seat_shape}
 
--- whether a piece among messages has the unit's record, and whether a Delete names it
-abbrev pub gives : {R : Type 0} → List (Item R) → Bool
-gives [] = false
-gives (Piece h ∷ xs) = is_some h.own || gives xs
-gives (_ ∷ xs) = gives xs
+-- whether this is a piece that has the unit's record, and whether it is a Delete that names it
+abbrev pub gives : {R : Type 0} → Item R → Bool
+gives (Piece h) = is_some h.own
+gives x = false
 
-abbrev pub deletes : {R : Type 0} → List (Item R) → Bool
-deletes [] = false
-deletes (Delete own ∷ xs) = own || deletes xs
-deletes (_ ∷ xs) = deletes xs
+abbrev pub deletes : {R : Type 0} → Item R → Bool
+deletes (Delete own) = own
+deletes x = false
 
 pub data ToRemove {R : Type 0} (from to : List (Item R)) : Type 0 where
-  Is_given : gives from ≡ true → ToRemove from to
-  Is_named : deletes to ≡ true → ToRemove from to
+  Is_given : list_any gives from ≡ true → ToRemove from to
+  Is_named : list_any deletes to ≡ true → ToRemove from to
 
-given : {R : Type 0} (y : List (Mix R)) (r : R) → pick (parts_in y) ≡ Some r → gives (map lists.shown y) ≡ true
+given : {R : Type 0} (y : List (Mix R)) (r : R) → pick (parts_in y) ≡ Some r → list_any gives (map lists.shown y) ≡ true
 given [] r e = cc
 given (Ev p ∷ y) r e = given y r e
 given (Dd h ∷ y) r e = given y r e
-given (Pc h ∷ y) r e = elim h.own as (λ o. or_own o (pick (parts_in y)) ≡ Some r → is_some o || gives (map lists.shown y) ≡ true)
+given (Pc h ∷ y) r e = elim h.own as (λ o. or_own o (pick (parts_in y)) ≡ Some r → is_some o || list_any gives (map lists.shown y) ≡ true)
     [ None ↦ λ there. given y r there | Some s ↦ λ _. refl ] e
 
-named : {R : Type 0} (q : List (Part R)) (r : R) → pick q ≡ Some r → deletes (map delete q) ≡ true
+named : {R : Type 0} (q : List (Part R)) (r : R) → pick q ≡ Some r → list_any deletes (map delete q) ≡ true
 named [] r e = cc
 named (h ∷ q) r e =
-    elim h.own as (λ o. or_own o (pick q) ≡ Some r → is_some o || deletes (map delete q) ≡ true) [ None ↦ λ there. named q r there | Some s ↦ λ _. refl ] e
+    elim h.own as (λ o. or_own o (pick q) ≡ Some r → is_some o || list_any deletes (map delete q) ≡ true)
+    [ None ↦ λ there. named q r there | Some s ↦ λ _. refl ] e
 
 streaming : {R : Type 0} (y : List (Mix R)) (q : List (Part R)) (r : R) → pick (q ++ parts_in y) ≡ Some r → ToRemove (map lists.shown y) (map delete q)
 streaming y q r e =
@@ -57,9 +58,9 @@ stage_removes F (At_rest d l k) r t ts live way = not_nil refl way
 stage_removes F (Begun d l k) r t ts live way = not_nil refl way
 stage_removes {R = R} F (Frozen d e l k) r t ts live way = not_nil (rw (none_on_events R e) refl) way
 stage_removes {R = R} F (Stream_goes d f e l k) r t ts live way = not_nil (rw (none_on_events R e) refl) way
-stage_removes {R = R} F (Restored_comes d f e g l k why) r t ts live way = not_nil (simp (records_on-append, none_on_events)) way
+stage_removes {R = R} F (Restored_comes d f e g l k why) r t ts live way = not_nil (simp (filter_map-append, none_on_events)) way
 stage_removes {R = R} F (Turn_goes d f e l k why) r t ts live way = not_nil (rw (none_on_events R e) refl) way
-stage_removes {R = R} F (Turned_back d f e h l k why) r t ts live way = not_nil (simp (records_on-append, none_on_events)) way
+stage_removes {R = R} F (Turned_back d f e h l k why) r t ts live way = not_nil (simp (filter_map-append, none_on_events)) way
 stage_removes F (Returned d x f h k why) r t ts live way = not_nil refl way
 stage_removes F (Fence_a d x n h k why) r t ts live way = not_nil refl way
 stage_removes F (Fenced_back d l k why) r t ts live way = not_nil refl way

@@ -1,13 +1,14 @@
 -- The pieces of a move as one unit sees them: its record is in exactly one of them, and the last alone has the mark of the last.
 use Rattle.std.proofs.Common.{◌≡◌, Bool, true, false, Option, Some, None, List, [], ◌∷◌, ◌++◌, refl, sym, ap, ◌∙◌, subst}
 use Rattle.std.specs.Prelude.{if◌then◌else◌, option_to_list}
+use Rattle.std.specs.List.{filter_map, cons_option}
+use Rattle.std.proofs.lemmas.List.Elements.{filter_map-append}
 use Rattle.proof_machines.proofs.unit.Machine.{Part, pick, or_own, is_nil}
 use Rattle.proof_machines.proofs.unit.Lists.{nil_is}
 
 -- the records of the unit in pieces, in order
 abbrev pub records : {R : Type 0} → List (Part R) → List R
-records [] = []
-records (h ∷ t) = elim h.own [ None ↦ records t | Some r ↦ r ∷ records t ]
+records ps = filter_map (λ h. h.own) ps
 
 abbrev pub closes : {R : Type 0} → List (Part R) → Bool
 closes [] = false
@@ -20,14 +21,9 @@ pub record ArePiecesOf {R : Type 0} (ps : List (Part R)) (o : Option R) : Type 0
 pub refit : {R : Type 0} {ps qs : List (Part R)} {o : Option R} → ps ≡ qs → ArePiecesOf ps o → ArePiecesOf qs o
 refit {o = o} e f = subst (λ z. ArePiecesOf z o) e f
 
-pub records-append : {R : Type 0} (x y : List (Part R)) → records (x ++ y) ≡ records x ++ records y
-records-append [] y = refl
-records-append (h ∷ x) y =
-    elim h.own
-    as (λ o. elim o [ None ↦ records (x ++ y) | Some r ↦ r ∷ records (x ++ y) ] ≡ elim o [ None ↦ records x | Some r ↦ r ∷ records x ] ++ records y) [
-      | None ↦ records-append x y
-      | Some r ↦ ap (λ z. r ∷ z) (records-append x y)
-    ]
+pub cons_option_is : {R : Type 0} (o : Option R) (xs : List R) → cons_option o xs ≡ option_to_list o ++ xs
+cons_option_is None xs = refl
+cons_option_is (Some r) xs = refl
 
 abbrev pub first : {R : Type 0} → List R → Option R
 first [] = None
@@ -36,7 +32,7 @@ first (r ∷ _) = Some r
 pub pick_first : {R : Type 0} (ps : List (Part R)) → pick ps ≡ first (records ps)
 pick_first [] = refl
 pick_first (h ∷ t) =
-    elim h.own as (λ o. or_own o (pick t) ≡ first (elim o [ None ↦ records t | Some r ↦ r ∷ records t ])) [
+    elim h.own as (λ o. or_own o (pick t) ≡ first (cons_option o (records t))) [
       | None ↦ pick_first t
       | Some r ↦ refl
     ]
@@ -69,12 +65,12 @@ alone (Some s) (x ∷ []) r ys e = let never : ⊥ = cc in absurd never
 alone (Some s) (x ∷ y ∷ xs) r ys e = let never : ⊥ = cc in absurd never
 
 records_at : {R : Type 0} (h : Part R) (t : List (Part R)) (r : R) → h.own ≡ Some r → records (h ∷ t) ≡ r ∷ records t
-records_at h t r e = ap (λ o. elim o [ None ↦ records t | Some s ↦ s ∷ records t ]) e
+records_at h t r e = ap (λ o. cons_option o (records t)) e
 
 pub others : {R : Type 0} (x : List (Part R)) (h : Part R) (t : List (Part R)) (o : Option R) (r : R) → h.own ≡ Some r → ArePiecesOf (x ++ h ∷ t) o
     → (pick x ≡ None) × (pick t ≡ None)
 others x h t o r e f =
-    let both = alone o (records x) r (records t) (sym (ap (λ z. records x ++ z) (records_at h t r e)) ∙ sym (records-append x (h ∷ t)) ∙ f.one) in
+    let both = alone o (records x) r (records t) (sym (ap (λ z. records x ++ z) (records_at h t r e)) ∙ sym (filter_map-append _ x (h ∷ t)) ∙ f.one) in
     (pick_first x ∙ ap first both.0, pick_first t ∙ ap first both.1)
 
 -- the marks: what stands behind the last, and who is the last

@@ -1,14 +1,15 @@
 -- Records that stand by or are in chunks stay folds of fronts of what was done (`Fronts`): with each node's step, each packet of the input and each
 -- begin.
+use Rattle.proof_machines.proofs.unit.Labels.{each_map, each_any}
 use Rattle.proof_machines.proofs.net.Words.{◌≡◌, ◌≢◌, ℕ, Bool, true, false, Option, Some, None, List, [], ◌∷◌, ◌++◌, refl, sym, ap, ◌∙◌, subst, append-nil}
-use Rattle.proof_machines.proofs.net.Words.{if◌then◌else◌, ◌&&◌, ◌==◌, Chunks, record_at, sent_for, Each, runs, shape, Filter, Asked, Carry_on, MoveAsked, Sys}
+use Rattle.proof_machines.proofs.net.Words.{if◌then◌else◌, ◌&&◌, ◌==◌, Chunks, record_at, sent_for, runs, shape, Filter, Asked, Carry_on, MoveAsked, Sys}
 use Rattle.proof_machines.proofs.net.Words.{IsSys, inst_step, sw_sends, begin_sends, at_node, OfShare, GlobalAll, unit_share, own_of, Any, Old, New, ShareMsg}
 use Rattle.proof_machines.proofs.net.Words.{Shared_on, Diverted_on, S_asked, S_install, S_forward, S_get, S_sync, S_chunks, S_shared, S_synced, WantShare}
 use Rattle.proof_machines.proofs.net.Words.{EachNew, same, as_old, Sharing, IsSharing, OpenShare, find_share, Told, share_row, told_by, by_share, member_step}
 use Rattle.proof_machines.proofs.net.Words.{share_sends, arrive_sends, WholeWorld, old_step, whole_inst, whole_ctrl, whole_switch, whole_input, asks}
 use Rattle.proof_machines.proofs.net.Words.{begin_move, begin_share, puts_get, keeps, ran_of, same_unit, Unit}
 use Rattle.proof_machines.proofs.share.Share.{Ran}
-use Rattle.proof_machines.proofs.net.NewMessages.{OnNew, EachSentNew, each_new_map, each_sent_map, sent_old, sent_old_and, new_after, new_put, new_head}
+use Rattle.proof_machines.proofs.net.NewMessages.{OnNew, EachSentNew, each_new_map, sent_old, sent_old_and, new_after, new_put, new_head}
 use Rattle.proof_machines.proofs.net.ShareRows.{Tells, told_cases, ToldOf, SentBy, share_row_by}
 use Rattle.proof_machines.proofs.net.ShareLabels.{ShareLabel, label_of}
 use Rattle.proof_machines.proofs.net.Untaken.{head_none}
@@ -150,10 +151,6 @@ module _ {R : Type 0} (S : Sys R) (A : Sharing S) (laws : IsSys S) (u : Unit) wh
   abbrev In_front : List Ran → Chunks R → Type 0
   In_front ds cs = FrontOf S A laws u ds (record_at u cs)
 
-  any_packets : (ps : List ℕ) → Each (λ _. Prim.Unit {0}) ps
-  any_packets [] = tt
-  any_packets (p ∷ ps) = (tt, any_packets ps)
-
   told_front : (ds : List Ran) (es : List OpenShare) (m : Any R) (e : OpenShare) (t : Told R) → OnNew (MsgFront S A laws u ds) m → Tells S A es m e t
       → ToldOf S A e (λ _. Prim.Unit {0}) (In_front ds) t
   told_front ds es (Old m) e t h is = rw is tt
@@ -189,9 +186,9 @@ module _ {R : Type 0} (S : Sys R) (A : Sharing S) (laws : IsSys S) (u : Unit) wh
 
       goes : (e : OpenShare) (t : Told R) → find_share w.shares e.num ≡ Some e → Tells S A w.shares m e t
           → EachSentNew (λ _ x. MsgFront S A laws u ds x) (by_share S A w.shares p (Some (e, t))).sends
-      goes e t there is = each_sent_map (SentBy S A e (λ _. Prim.Unit {0}) (In_front ds)) (λ _ x. OnNew (MsgFront S A laws u ds) x)
-          (λ j x h. sent_front ds e j x h) (share_row S A e p t).sends (share_row_by S A e (λ _. Prim.Unit {0}) (In_front ds) p t (told_front ds w.shares m e t
-          (head_front w fr p 1 m rest (elim (p == 0) as (λ b. b && false ≡ false) [ true ↦ refl | false ↦ refl ]) waits) is) (any_packets e.queue)).1
+      goes e t there is = each_map (λ x h. sent_front ds e x.0 x.1 h)
+          (share_row S A e p t).sends (share_row_by S A e (λ _. Prim.Unit {0}) (In_front ds) p t (told_front ds w.shares m e t
+          (head_front w fr p 1 m rest (elim (p == 0) as (λ b. b && false ≡ false) [ true ↦ refl | false ↦ refl ]) waits) is) (each_any e.queue)).1
 
   -- The switch sends no chunk, and so does the input
   no_chunk : (ds : List Ran) (m : ShareMsg R) → EachSentNew (λ _ x. MsgFront S A laws u ds x) (share_sends S A m)

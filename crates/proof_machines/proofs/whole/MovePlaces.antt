@@ -1,18 +1,12 @@
 -- Of one unit in a world of moves: where an instance processes packets of it, it may do so (`MayRun`), and its record is the fold of all that
 -- was done before.
-use Rattle.proof_machines.proofs.net.Words.{◌≡◌, ◌≢◌, ℕ, suc, Bool, true, false, Option, Some, None, List, [], ◌∷◌, refl, sym, ap, ◌∙◌, subst, arith, ◌==◌}
-use Rattle.proof_machines.proofs.net.Words.{At_a, At_b, At_c, Steps, Ran, Part, Inst, Did, inst_does, Item, State, after, firsts, cons_nil, never_true, ShownBy}
-use Rattle.proof_machines.proofs.net.Words.{By_sa, By_sb, By_sc, By_ca, By_cb, By_ac, By_bc, By_cc, By_cs, shown_by, At_rest, UnitSeat, Covered, Is_beside}
-use Rattle.proof_machines.proofs.net.Words.{Is_away, seat_shape, seat_at, Op, items, Msg, Sys, IsSys, InstanceTurn, Open, World, find_op, inst_step, seen}
-use Rattle.proof_machines.proofs.net.Words.{Seeing, sides_of, frame, SeesNode, node_at, place, IsController, OpLabel, Holds, Rest, Global, none_mine, done_u}
-use Rattle.proof_machines.proofs.net.Words.{Answer, Unit, Side}
-use Rattle.proof_machines.proofs.unit.Fresh.{still_ca, still_cb, still_ran, fresh_sa, fresh_sb, fresh_sc, sc_stage}
+use Rattle.proof_machines.proofs.net.Words.{◌≡◌, ◌≢◌, ℕ, suc, Bool, true, false, Some, None, List, [], ◌∷◌, refl, sym, ap, ◌∙◌, subst, arith, ◌==◌, At_a, At_c}
+use Rattle.proof_machines.proofs.net.Words.{Steps, Ran, Item, State, after, cons_nil, At_rest, UnitSeat, Covered, Is_beside, Is_away, seat_shape, seat_at, Op}
+use Rattle.proof_machines.proofs.net.Words.{Msg, Sys, IsSys, Open, World, find_op, inst_step, Seeing, node_at, place, IsController, OpLabel, Holds, Rest}
+use Rattle.proof_machines.proofs.net.Words.{Global, none_mine, done_u, Unit}
+use Rattle.proof_machines.proofs.unit.Fresh.{fresh_sa, fresh_sb, fresh_sc, sc_stage}
 use Rattle.proof_machines.proofs.net.Ctrl.{each_found}
-use Rattle.proof_machines.proofs.net.Insts.{InstanceGoes, does}
-use Rattle.proof_machines.proofs.net.InstMoves.{MovesInstance, Any, Streams_out, Puts_in}
-use Rattle.proof_machines.proofs.net.InstWorld.{num, label, step_at, here, is_src, is_dst, is_third, shown}
-use Rattle.proof_machines.proofs.net.RestingSeats.{same_mine, same_done}
-use Rattle.proof_machines.proofs.net.Readings.{fold, fold_runs}
+use Rattle.proof_machines.proofs.net.Readings.{fold}
 use Rattle.proof_machines.proofs.net.Units.{Where, Where.At_rest, Where.In_move, shown_rest, see}
 use Rattle.proof_machines.proofs.net.Fresh.{From_switch, From_switch.From_sa, From_switch.From_sb, From_switch.From_sc, comes_from_switch}
 use Rattle.proof_machines.proofs.whole.RoutedSteps.{Routed, To_source, To_destination, source_routed, destination_routed}
@@ -62,7 +56,7 @@ module _ {R : Type 0} (S : Sys R) (laws : IsSys S) (z : Seeing) (w : World S) (s
       record {
         link = link;
         at = placed link;
-        live = (h.insts y).live ∙ by_link link ∙ fold_runs S.F None x.done ∙ ap (λ d. fold S.F None d) (sym (same_done S z w.done ∙ h.done));
+        live = (h.insts y).live ∙ by_link link ∙ ap (λ d. fold S.F None d) (sym h.done);
       }
 
 -- where a packet of the unit may be processed: where its packets go, and at the destination of an open move of it as long as they go to the

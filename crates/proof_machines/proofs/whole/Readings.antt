@@ -1,20 +1,17 @@
 -- What is read off where a unit is in the whole world: its done packets and those that wait are all that came, in order unless a move without a
 -- buffer took it; and its records.
-use Rattle.proof_machines.proofs.net.Words.{◌≡◌, ℕ, true, false, Option, Some, None, List, [], ◌∷◌, ◌++◌, refl, ap, ◌∙◌, ◌==◌, Steps, times, exactly, has, runs}
-use Rattle.proof_machines.proofs.net.Words.{packets, path, shape, IsFront, Lacks, self, Sys, IsSys, done_u, GlobalAll, unit_share, as_share, WantShare, Sharing}
+use Rattle.proof_machines.proofs.net.Words.{◌≡◌, ℕ, true, false, Option, Some, None, List, ◌++◌, ap, ◌∙◌, ◌==◌, times, exactly, has, runs}
+use Rattle.proof_machines.proofs.net.Words.{path, shape, IsFront, Lacks, self, Sys, IsSys, done_u, GlobalAll, unit_share, as_share, WantShare, Sharing}
 use Rattle.proof_machines.proofs.net.Words.{OpenShare, find_share, WholeWorld, moves_of, ran_of, SeeingShare, Unit, same_of}
 use Rattle.proof_machines.proofs.share.Share.{Ran}
 use Rattle.proof_machines.proofs.net.Readings.{fold, not_both, In_order, order_of, RecordOf, record_of}
 use Rattle.proof_machines.proofs.net.Under.{Under}
+pub use Rattle.proof_machines.proofs.net.UnderStarts.{fold_packets}
 use Rattle.proof_machines.proofs.net.UnderStarts.{seeing, packets_done}
 use Rattle.proof_machines.proofs.net.UnderReadings.{under_order, under_records}
 use Rattle.proof_machines.proofs.whole.WhereAll.{Came, WhereAll, Apart_from_shares, Under_share}
 
 -- the fold looks at the packets alone
-pub fold_packets : {R : Type 0} (F : Steps R) (o : Option R) (ds : List Ran) → runs F o ds ≡ fold F o (packets ds)
-fold_packets F o [] = refl
-fold_packets F o (d ∷ ds) = fold_packets F (Some (F.step o d.0)) ds
-
 module _ {R : Type 0} (S : Sys R) (A : Sharing S) (laws : IsSys S) (u : Unit) where
   pub fold_done : (o : Option R) (ds : List Ran) → runs S.F o (ran_of S A u ds) ≡ fold S.F o (done_u S u ds)
   fold_done o ds = fold_packets S.F o (ran_of S A u ds) ∙ ap (fold S.F o) (packets_done S A u ds)

@@ -1,25 +1,14 @@
 -- What moves have of a unit under a share: nothing. No open move takes it, keeps a record or a packet of it, and no message of a move has one. So a
 -- unit that an open move takes, and that of an event, is apart from shares.
-use Rattle.proof_machines.proofs.net.Words.{◌≡◌, ℕ, true, false, Some, None, List, [], ◌∷◌, refl, sym, ◌∙◌, subst, ◌&&◌, ◌==◌, Chunks, record_at, RPiece}
-use Rattle.proof_machines.proofs.net.Words.{RPhase, M_event, M_put_no, M_install, Streaming, Each, Without, Clean, Filter, Msg, Mv, Sys, IsSys, Open, find_op}
+use Rattle.proof_machines.proofs.net.Words.{◌≡◌, ℕ, true, false, Some, List, [], ◌∷◌, refl, sym, ◌∙◌, subst, ◌&&◌, ◌==◌, Chunks}
+use Rattle.proof_machines.proofs.net.Words.{M_event, M_put_no, M_install, Each, Filter, Msg, Mv, Sys, IsSys, Open, find_op}
 use Rattle.proof_machines.proofs.net.Words.{RestOp, NothingOf, none_mine, Any, Old, olds, Sharing, WholeWorld, moves_of, SeeingShare, Answer, same_unit, Unit}
 use Rattle.proof_machines.proofs.net.Ctrl.{each_found}
-use Rattle.proof_machines.proofs.net.Copies.{has, have, copies}
+use Rattle.proof_machines.proofs.net.Copies.{has, copies, has_none, copies_none}
 use Rattle.proof_machines.proofs.net.Under.{Under}
 use Rattle.proof_machines.proofs.net.Units.{Where}
 use Rattle.proof_machines.proofs.net.UnderStarts.{seeing}
 use Rattle.proof_machines.proofs.whole.WhereAll.{Came, WhereAll, Apart_from_shares, Under_share}
-
-has_none : {R : Type 0} (u : Unit) (cs : Chunks R) → record_at u cs ≡ None → has u cs ≡ 0
-has_none u cs e = rw e refl
-
-have_none : {R : Type 0} (u : Unit) (ps : List (RPiece R)) → Each (Without u) ps → have u ps ≡ 0
-have_none u [] h = refl
-have_none u (p ∷ ps) h = let a = has_none u p.chunks h.0 in let b = have_none u ps h.1 in rw (a, b) refl
-
-copies_none : {R : Type 0} (u : Unit) (ph : RPhase R) → Clean u ph → copies u ph ≡ 0
-copies_none u (Streaming frozen free came door) h = let a = have_none u frozen h.0 in let b = have_none u free h.1 in rw (a, b) refl
-copies_none u ph h = refl
 
 module _ {R : Type 0} (S : Sys R) (A : Sharing S) (z : SeeingShare) (w : WholeWorld S A) (before since : List ℕ) (h : Under S A z w before since) where
   -- Of an open move

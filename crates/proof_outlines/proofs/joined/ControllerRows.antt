@@ -1,14 +1,16 @@
 -- A controller of a run is one after a row of an open move.
-use Rattle.proof_outlines.proofs.Words.{◌≡◌, ℕ, ◌+◌, ◌<◌, ◌≤◌, true, false, cond, Option, Some, None, List, [], ◌∷◌, map, refl, sym, ap, ◌∙◌, subst, arith}
+use Rattle.proof_outlines.proofs.Words.{not, ◌≡◌, ℕ, ◌+◌, ◌<◌, ◌≤◌, true, false, cond, Option, Some, None, List, [], ◌∷◌, map, refl, sym, ap, ◌∙◌, subst, arith}
 use Rattle.proof_outlines.proofs.Words.{if◌then◌else◌, ◌==◌, unwrap_or, nat_tests, Decides-eqb, Semantics, stored_of, Answer, Piece, switch_node, Door, Phase}
 use Rattle.proof_outlines.proofs.Words.{MoveState, MoveRow, answer_of, chunks_of, Move, Turn, turn_of_move, ControllerState, Step, after_turn, RPhase, Each}
-use Rattle.proof_outlines.proofs.Words.{each_map, EachSent, Open, close_op, set_op, write_op, OpenShare, each_set, have, copies, spelled, sent-append}
+use Rattle.proof_outlines.proofs.Words.{each_map, EachSent, Open, close_op, set_op, write_op, OpenShare, have, copies, spelled, sent-append}
 use Rattle.proof_outlines.proofs.Words.{either_way, split, Unit, Msg}
 use Rattle.std.specs.FinMap as finite
 use Rattle.move_op.specs.Phases as phase
 use Rattle.proof_outlines.proofs.joined.Words.{entries, outline_piece, filter_map-put, outline_phase, stored_after, got_insert, got_remove, OpensAll, Given}
 use Rattle.proof_outlines.proofs.joined.Words.{place, Genuine, Label, IsController, IsListed, HasPieces, AreFree, AreGoodChunks, IsGoodPiece}
 use Rattle.proof_outlines.proofs.joined.UnitCounts.{times, times-append, times_chunks}
+use Rattle.proof_machines.proofs.NumberedLists.{each-change}
+use Rattle.proof_machines.proofs.net.Net.{written}
 use Rattle.proof_outlines.proofs.joined.MoveSteps.{RowKeeps, kept_in}
 use Rattle.proof_outlines.proofs.joined.ControllerScenes.{AreQuiet}
 use Rattle.proof_outlines.proofs.joined.ControllerChanges.{AreAlike, IsKind, IsOperation, changed}
@@ -17,7 +19,7 @@ use Rattle.proof_outlines.proofs.joined.ControllerChanges.{AreAlike, IsKind, IsO
 each_left : {R : Type 0} (P Q : Open R → Type 0) (k : ℕ) (es : List (Open R)) → ((e : Open R) → (e.op.num == k) ≡ false → P e → Q e) → Each P es
     → Each Q (close_op k es)
 each_left P Q k [] keep h = tt
-each_left P Q k (e ∷ es) keep h = split (e.op.num == k) (λ b. Each Q (if b then close_op k es else e ∷ close_op k es)) (λ _. each_left P Q k es keep h.1)
+each_left P Q k (e ∷ es) keep h = split (e.op.num == k) (λ b. Each Q (if not b then e ∷ close_op k es else close_op k es)) (λ _. each_left P Q k es keep h.1)
     (λ off. (keep e off h.0, each_left P Q k es keep h.1))
 
 move_same : {a b : MoveState} → Some (Move a) ≡ Some (Move b) → a ≡ b
@@ -93,7 +95,8 @@ module _ {R : Type 0} (f : Semantics R) (g : Given) where
         (λ off. record { move = l.move; there = open_alike.operations e.op.num off ∙ l.there; filter = l.filter })
 
     listed_open : (rp : RPhase R) (fs : List ℕ) → Each (IsListed f g (did None).node) (set_op n rp fs ops)
-    listed_open rp fs = each_set (IsListed f g (did None).node) n rp fs ops (λ e _ l. record { move = l.move; there = l.there; filter = l.filter })
+    listed_open rp fs = each-change _ (IsListed f g (did None).node) n (written rp fs)
+        (λ e _ l. record { move = l.move; there = l.there; filter = l.filter }) ops
         (each_map {P = (IsListed f g c)} {Q = (IsListed f g (did None).node)} listed_at ops is.listed)
 
     listed_closed : (why : Answer) → Each (IsListed f g (did (Some why)).node) (close_op n ops)

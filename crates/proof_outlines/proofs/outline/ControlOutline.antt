@@ -3,7 +3,8 @@ use Rattle.proof_outlines.proofs.Words.{◌≡◌, ℕ, Bool, true, false, Optio
 use Rattle.proof_outlines.proofs.Words.{◌==◌, cond, unwrap_or, nat_cmp, nat_cmp_total, nat_tests, Decides-eqb, Semantics, FullCell, stored_of, order_test}
 use Rattle.proof_outlines.proofs.Words.{stored-with_parcels, Answer, Msg, Phase, MoveState, row, row_in, store_after, answer_of, Operation, Move, Copy, Share}
 use Rattle.proof_outlines.proofs.Words.{OpenOperations, Turn, turn_of, turn_of_move, switch_node, ControllerState, Step, after_turn, takes_turn, RPhase, Open}
-use Rattle.proof_outlines.proofs.Words.{ControllerMove, find_op, write_op, found, wrap, find_close, find_set, find_write_other, either_way}
+use Rattle.proof_machines.proofs.NumberedLists.{find-drop_own}
+use Rattle.proof_outlines.proofs.Words.{ControllerMove, find_op, write_op, found, wrap, find_set, find_write_other, either_way}
 use Rattle.std.specs.FinMap as finite
 use Rattle.move_op.specs.Phases as phase
 use Rattle.proof_machines.proofs.unit.Real as real
@@ -129,7 +130,7 @@ module _ {R : Type 0} (f : Semantics R) (place : List ℕ → Option ℕ) where
             got_remove (finite.insert s.operations n (Move (record m { phase = ph }))) n n
             ∙ ap (λ b. cond b None (finite.get (finite.insert s.operations n (Move (record m { phase = ph }))) n)) self in
             subst (λ x. Sees x (finite.get (finite.remove (finite.insert s.operations n (Move (record m { phase = ph }))) n) n) (stored_of after_store n))
-            (sym (find_close n ops)) (subst (λ x. Sees None x (stored_of after_store n)) (sym got) tt)
+            (sym (find-drop_own _ n ops)) (subst (λ x. Sees None x (stored_of after_store n)) (sym got) tt)
 
     -- after a row, by the phase that it leaves
     written_after : (ph : Phase) (rp : RPhase R) (sends : List (ℕ × Msg)) → rp ≡ outline_phase f place ph

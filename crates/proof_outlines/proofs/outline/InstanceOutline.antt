@@ -17,7 +17,7 @@ without_same : (op : ℕ) (rs : List (EventRule FullCell)) → map outline_rule 
 without_same op [] = refl
 without_same op (r ∷ rs) =
     split (r.op == op) (λ b. map outline_rule (if not b then r ∷ rules.without_rule rs op else rules.without_rule rs op) ≡
-    (if b then drop_rule op (map outline_rule rs) else outline_rule r ∷ drop_rule op (map outline_rule rs)))
+    (if not b then outline_rule r ∷ drop_rule op (map outline_rule rs) else drop_rule op (map outline_rule rs)))
     (λ _. without_same op rs) (λ _. ap (λ xs. outline_rule r ∷ xs) (without_same op rs))
 
 rule_same : (op : ℕ) (rs : List (EventRule FullCell)) → option_map outline_rule (rules.rule_at rs op) ≡ find_rule op (map outline_rule rs)

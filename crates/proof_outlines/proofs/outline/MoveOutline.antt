@@ -1,9 +1,9 @@
 -- The outline of each row of a move's table is the row of the abstract network.
-use Rattle.proof_outlines.proofs.Words.{◌≡◌, ℕ, Bool, true, false, Option, Some, None, List, [], ◌∷◌, ◌++◌, map, refl, sym, ap, ◌∙◌, subst, if◌then◌else◌, ◌==◌}
-use Rattle.proof_outlines.proofs.Words.{unwrap_or, Chunk, Semantics, spelled, FullCell, Answer, Refused, Msg, instance_node, Phase, MovePlan, MoveNext, MoveRow}
-use Rattle.proof_outlines.proofs.Words.{keeps, next_phase, have_units, chunks_of, put_back, source, destination, put_to, forward_to, words, from_source}
-use Rattle.proof_outlines.proofs.Words.{from_destination, row, on_event, on_piece, on_source_fenced, RPhase, Op, OperationTurn, r_words, Each, wrap, row_of}
-use Rattle.proof_outlines.proofs.Words.{Unit, Target, Door, APiece, split}
+use Rattle.proof_outlines.proofs.Words.{map-append, ◌≡◌, ℕ, Bool, true, false, Option, Some, None, List, [], ◌∷◌, ◌++◌, map, refl, sym, ap, ◌∙◌, subst}
+use Rattle.proof_outlines.proofs.Words.{if◌then◌else◌, ◌==◌, unwrap_or, Chunk, Semantics, spelled, FullCell, Answer, Refused, Msg, instance_node, Phase}
+use Rattle.proof_outlines.proofs.Words.{MovePlan, MoveNext, MoveRow, keeps, next_phase, have_units, chunks_of, put_back, source, destination, put_to}
+use Rattle.proof_outlines.proofs.Words.{forward_to, words, from_source, from_destination, row, on_event, on_piece, on_source_fenced, RPhase, Op, OperationTurn}
+use Rattle.proof_outlines.proofs.Words.{r_words, Each, wrap, row_of, Unit, Target, Door, APiece, split}
 use Rattle.nf_msgs.specs.Exports.{units_in}
 use Rattle.move_op.specs.Phases as phase
 use Rattle.proof_machines.proofs.unit.Real as real
@@ -67,10 +67,6 @@ module _ {R : Type 0} (f : Semantics R) (place : List ℕ → Option ℕ) where
   sends-put : (xs ys : List (ℕ × Msg)) → outline_sends f place (xs ++ ys) ≡ outline_sends f place xs ++ outline_sends f place ys
   sends-put xs ys = filter_map-put (outline_sent f place) xs ys
 
-  wrap-put : (plan : MovePlan) (xs ys : List (ℕ × real.Msg R)) → wrap plan.filter (xs ++ ys) ≡ wrap plan.filter xs ++ wrap plan.filter ys
-  wrap-put plan [] ys = refl
-  wrap-put plan (x ∷ xs) ys = ap (λ zs. (x.0, net.Mv (net.filter_for plan.filter x.1) x.1) ∷ zs) (wrap-put plan xs ys)
-
   puts_same : (plan : MovePlan) (ps : List APiece)
       → outline_sends f place (map (put_to plan false) ps) ≡ wrap plan.filter (map (real.put_to (outline_plan plan)) (map (outline_piece f) ps))
   puts_same plan [] = refl
@@ -89,7 +85,7 @@ module _ {R : Type 0} (f : Semantics R) (place : List ℕ → Option ℕ) where
   sent_on plan to events m seen same =
       sends-put (map (forward_to plan to) events) ((0, m) ∷ []) ∙ ap (λ xs. xs ++ outline_sends f place ((0, m) ∷ [])) (forwards_same plan to events)
       ∙ ap (λ xs. wrap plan.filter (map (real.forward_to (instance_node to)) (map number events)) ++ xs) same
-      ∙ sym (wrap-put plan (map (real.forward_to (instance_node to)) (map number events)) ((0, seen) ∷ []))
+      ∙ sym (map-append _ (map (real.forward_to (instance_node to)) (map number events)) ((0, seen) ∷ []))
 
   -- a row that leaves the stored parcels, and what the network does
   abbrev NextFollows : MovePlan → List FullCell → MoveNext → OperationTurn R → Type 0

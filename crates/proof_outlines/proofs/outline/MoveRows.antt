@@ -1,11 +1,12 @@
 -- What holds of all that the words of a move come to holds of its row on any message. So what holds of each message that a move may send holds of
 -- all that it sends.
+use Rattle.proof_machines.proofs.EachLaws.{each_any}
 use Rattle.proof_outlines.proofs.Words.{◌≡◌, ℕ, Bool, true, false, List, [], ◌∷◌, ◌++◌, map, refl, ◌==◌, Each, FullCell, Answer, Piece, Msg, Phase, Said}
 use Rattle.proof_outlines.proofs.Words.{Nothing, Put, Release, Give_back, MovePlan, MoveNext, MoveRow, put_back, source, destination, put_to, forward_to}
 use Rattle.proof_outlines.proofs.Words.{messages_of, words, from_source, from_destination, row, by_if, Target}
 use Rattle.proof_machines.proofs.unit.TableRows.{PhaseHas, Hold, stays, event_holds, source_enabled_holds, piece_holds, deleted_holds, restored_holds}
 use Rattle.proof_machines.proofs.unit.TableRows.{source_fenced_holds, put_ok_holds, put_no_holds, destination_enabled_holds, destination_fenced_holds, Any}
-use Rattle.proof_machines.proofs.unit.TableRows.{any_each, any_phase}
+use Rattle.proof_machines.proofs.unit.TableRows.{any_phase}
 
 -- what a message of the source brings, and one of the destination
 abbrev pub Brings : (FullCell → Type 0) → (Piece → Type 0) → Msg → Type 0
@@ -58,7 +59,7 @@ row_sends Sent plan sent ph events port m =
     let Gives : MoveRow → Type 0 = λ r. Sent r.next.sends in
     let h : Hold (words plan) (Any FullCell) (Any Piece) (Any Answer) (Any Answer) Leads Gives =
     record { done = tt; refused = λ why x. tt; next = λ phase says x y. sent says; keeps = λ s. s; stores = λ ps all s. s } in
-    row_holds h events (any_each events) ph (any_phase ph) port m (brings_any m) (brings_back_any m)
+    row_holds h events (each_any events) ph (any_phase ph) port m (brings_any m) (brings_back_any m)
 
 -- a message that a move may send
 abbrev pub is_of_move : Msg → Bool

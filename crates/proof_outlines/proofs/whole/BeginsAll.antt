@@ -1,4 +1,5 @@
 -- The controller after a begin of a share, a move or a copy is that of the network with shares.
+use Rattle.proof_machines.proofs.NumberedLists.{find-append_own}
 use Rattle.proof_outlines.proofs.Words.{◌≡◌, ℕ, true, false, cond, Option, Some, None, List, [], ◌∷◌, ◌++◌, map, refl, sym, ap, ◌∙◌, subst, arith}
 use Rattle.proof_outlines.proofs.Words.{if◌then◌else◌, ◌==◌, filter_map, self, Filter, Packet, Site, Semantics, stored_of, instance_node, MovePlan}
 use Rattle.proof_outlines.proofs.Words.{move_at_start, CopyPlan, SharePlan, Operation, Move, Copy, Share, ControllerState, move_begin, copy_begin, share_begin}
@@ -13,12 +14,6 @@ use Rattle.proof_outlines.proofs.whole.WholeOutline.{members_of, share_between, 
 use Rattle.proof_outlines.proofs.whole.AskedShare.{is_more}
 use Rattle.proof_outlines.proofs.whole.ShareOutline.{SeesShare}
 use Rattle.proof_outlines.proofs.whole.OpenShares.{turned_test, Table, SeesAny, OpensAll, opens_at, unseen_at, no_op, no_open_share, StepFollows}
-
--- a move more
-ops_new : {R : Type 0} (es : List (Open R)) (y : Open R) (n : ℕ) → (y.op.num == n) ≡ true → find_op es n ≡ None → find_op (es ++ y ∷ []) n ≡ Some y
-ops_new [] y n on none = rw on refl
-ops_new (e ∷ es) y n on none = elim (e.op.num == n) as (λ b. (if b then Some e else find_op es n) ≡ None
-    → (if b then Some e else find_op (es ++ y ∷ []) n) ≡ Some y) [ true ↦ λ bad. cc | false ↦ λ rest. ops_new es y n on rest ] none
 
 -- the members of a share are those whose names are known
 pub members_real : (place : List ℕ → Option ℕ) (names : List (List ℕ)) (nodes : List ℕ) → members_of place names ≡ Some nodes
@@ -81,7 +76,7 @@ module _ {R : Type 0} (f : Semantics R) (at : Site) (packet : ℕ → Packet) (p
   move_seen : (plan : MovePlan) → plan.op ≡ n → SeesAny f place at (find_op (moved_on plan) n) (find_share shares n) (Some (Move (move_at_start plan))) []
   move_seen plan op =
       subst (λ o. SeesAny f place at o (find_share shares n) (Some (Move (move_at_start plan))) [])
-      (sym (ops_new ops (new_op plan.op (want_plan plan)) n (ap (λ j. j == n) op ∙ self n) none_open))
+      (sym (find-append_own _ n (new_op plan.op (want_plan plan)) ops (ap (λ j. j == n) op ∙ self n) none_open))
       (subst (λ o. SeesAny f place at (Some (new_op plan.op (want_plan plan))) o (Some (Move (move_at_start plan))) []) (sym none_shared)
       (record { move = record { op = refl; filter = refl; phase = refl; store = refl }; share = tt }))
 

@@ -1,5 +1,6 @@
 -- The controller's step on a message of a number that is no open share's: of a copy or of nothing, neither moves nor shares change; of a move
 -- it is that of the network of moves.
+use Rattle.proof_machines.proofs.NumberedLists.{found_number}
 use Rattle.proof_outlines.proofs.Words.{◌≡◌, ℕ, true, false, cond, Option, Some, None, List, [], ◌∷◌, map, refl, sym, ap, ◌∙◌, subst, if◌then◌else◌, ◌==◌}
 use Rattle.proof_outlines.proofs.Words.{unwrap_or, Decides-eqb, self, Packet, Site, Semantics, FullCell, stored_of, Answer, Msg, switch_node, instance_node}
 use Rattle.proof_outlines.proofs.Words.{MoveState, Store, row_in, CopyPhase, Getting, Keeping, CopyPlan, CopyState, CopyRow, Operation, Move, Copy, Turn}
@@ -19,13 +20,6 @@ use Rattle.proof_outlines.proofs.whole.MoveSends.{AreOld, old-put, row_old}
 use Rattle.proof_outlines.proofs.whole.OpenShares.{turned_test, but_shares, share_in, IsUnseen, Table, SeesOne, SeesAny, OpensAll, opens_at, unseen_at}
 use Rattle.proof_outlines.proofs.whole.OpenShares.{no_open_share, without_shares, got_moves, opens_moves, StepFollows}
 use Rattle.proof_outlines.proofs.whole.ShareTurns.{answer_unseen}
-
--- found by its own number
-found_op : {R : Type 0} (es : List (Open R)) (n : ℕ) (e : Open R) → find_op es n ≡ Some e → (e.op.num == n) ≡ true
-found_op [] n e is = cc
-found_op (x ∷ es) n e is = split (x.op.num == n) (λ b. (if b then Some x else find_op es n) ≡ Some e → (e.op.num == n) ≡ true)
-    (λ on there. let same : x ≡ e = cc in subst (λ y. (y.op.num == n) ≡ true) same on)
-    (λ _ there. found_op es n e there) is
 
 -- a message that an open move doesn't look at leaves the controller as it is
 pub move_still : (c : ControllerState) (op : ℕ) (mv : MoveState) (p : ℕ) (m : Msg) → move.answer_of mv.phase ≡ None
@@ -143,7 +137,7 @@ module _ {R : Type 0} (f : Semantics R) (at : Site) (packet : ℕ → Packet) (p
       there_alone = got_moves f place at c n ∙ ap but_shares there
 
       its_op : mv.plan.op ≡ n
-      its_op = sym (ap (λ o. o.num) its_move.sees.op) ∙ (Decides-eqb its_move.e.op.num n).0 (found_op ops n its_move.e its_move.found_it)
+      its_op = sym (ap (λ o. o.num) its_move.sees.op) ∙ (Decides-eqb its_move.e.op.num n).0 (found_number _ n ops its_move.e its_move.found_it)
 
       -- a turn that leaves a move, or ends it
       module _ (left : MoveState) (store : Store) (sends : List (ℕ × Msg)) (answer : Option Answer) where
