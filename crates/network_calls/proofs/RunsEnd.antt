@@ -11,6 +11,7 @@ use Rattle.actor_net.specs.Network.{run}
 use Rattle.actor_net.specs.Schedules.{StopsShort}
 use Rattle.actor_net.proofs.ScheduleLaws.{scheduled_is_run}
 use Rattle.net_world.specs.Length.{ends, has_end, IsShort}
+use Rattle.run_headline.specs.nf_net.specs.proof_outlines.proofs.joined.Setting.{setting_of}
 use Rattle.run_headline.specs.nf_net.proofs.length.RunLength.{run_length}
 use Rattle.run_headline.specs.nf_net.proofs.length.ShortRuns.{short_runs}
 use Rattle.run_headline.specs.nf_net.proofs.ends.NoStuckWorld.{no_stuck_world, never_short}
@@ -26,11 +27,13 @@ some_end items ended = let once = (Decides-eqb (ends items) 1).0 ended in omega 
 
 module _ (F : Type 0) {R : Type 0} (f : Semantics R) (laws : FunctionLaws f) where
   pub end_law : EndLaw F f
-  end_law alloc config items choices is ended runs = record {
-    few = run_length F f laws alloc config items is ended choices runs;
-    goes_on = no_stuck_world F f laws alloc config items is (some_end items ended) choices runs;
-    short = λ short. short_runs F f laws alloc config items is short choices runs;
-  }
+  end_law alloc config items choices is ended runs =
+      let setting = setting_of {F = F} f laws alloc config items is in
+      record {
+        few = run_length setting ended choices runs;
+        goes_on = no_stuck_world setting (some_end items ended) choices runs;
+        short = λ short. short_runs setting short choices runs;
+      }
 
   -- no schedule stops before the end of a short input's run
   pub never_stops : (alloc : Global) (config : Config) (items : List Msg) → IsInput f.kind config items → IsShort items → (schedule : Schedule) (step : ℕ)
@@ -38,5 +41,5 @@ module _ (F : Type 0) {R : Type 0} (f : Semantics R) (laws : FunctionLaws f) whe
   never_stops alloc config items is short schedule step stops =
       let first = started_with {F = F} {R = R} alloc config items in
       let runs = scheduled_is_run node_ready node_ended (node_step f) MOST_CHOICES schedule first in
-      never_short F f laws alloc config items is short (choices_of f first schedule) runs
+      never_short (setting_of {F = F} f laws alloc config items is) short (choices_of f first schedule) runs
       (subst (λ k. StopsShort node_ready node_ended (run (node_step f) (choices_of f first schedule) first) k) (sym stops.count) stops.short)

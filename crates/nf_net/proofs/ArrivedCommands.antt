@@ -1,10 +1,10 @@
 -- Of every run: where a command has begun, the packets that stand before it in the input have come.
-use Rattle.nf_net.proofs.Words.{◌≡◌, ℕ, ◌+◌, ◌<◌, ◌≤◌, true, false, List, [], ◌∷◌, ◌++◌, length, length-append, sym, ap, ◌∙◌, subst, arith, nat_lt, Global}
-use Rattle.nf_net.proofs.Words.{nat_tests, length-map, FunctionLaws, Semantics, Command, Msg, Note, Choice, Network, IsRun, run, queue_at, at, Each, Config}
-use Rattle.nf_net.proofs.Words.{Node, is_begun, has_answered, commands, IsInput, arrivals_in, node_step, node_ready, given, split}
+use Rattle.nf_net.proofs.Words.{◌≡◌, ℕ, ◌+◌, ◌<◌, ◌≤◌, true, false, List, [], ◌∷◌, ◌++◌, length, length-append, sym, ap, ◌∙◌, subst, arith, nat_lt}
+use Rattle.nf_net.proofs.Words.{nat_tests, length-map, Command, Msg, Note, Choice, Network, queue_at, at, Each}
+use Rattle.nf_net.proofs.Words.{Node, is_begun, has_answered, commands, arrivals_in, given, split, Setting, IsCourse, world_of}
 use Rattle.net_world.specs.Input.{packets}
 use Rattle.nf_net.proofs.answers.ArrivalLemmas.{numbers, runs_joined}
-use Rattle.nf_net.proofs.RunWords.{is_noted, or_off, run_busy, start}
+use Rattle.nf_net.proofs.RunWords.{is_noted, or_off, run_busy}
 use Rattle.nf_net.proofs.SettleCounts.{commands-append, longer_end, packets-append}
 use Rattle.nf_net.proofs.SettleKeeps.{run_settles}
 use Rattle.nf_net.proofs.SettleSteps.{Counted, unnoted_waits}
@@ -13,10 +13,11 @@ each_there : {X : Type 0} (P : X → Type 0) (xs : List X) (x : X) (ys : List X)
 each_there P [] x ys h = h.0
 each_there P (z ∷ xs) x ys h = each_there P xs x ys h.1
 
-module _ (F : Type 0) {R : Type 0} (f : Semantics R) (laws : FunctionLaws f) (alloc : Global) (c : Config) (items : List Msg) (is : IsInput f.kind c items)
-    (cs : List Choice) (run_is : IsRun node_ready (node_step f) cs (start F f laws alloc c items is)) where
+module _ {F R : Type 0} (setting : Setting F R) (cs : List Choice) (run_is : IsCourse setting cs) where
+  open setting use {items}
+
   abbrev w : Network (Node F R) Msg Note
-  w = run (node_step f) cs (start F f laws alloc c items is)
+  w = world_of setting cs
 
   abbrev left : List Msg
   left = queue_at w (at 0 0)
@@ -27,7 +28,7 @@ module _ (F : Type 0) {R : Type 0} (f : Semantics R) (laws : FunctionLaws f) (al
   -- all packets that have come, and those that are left
   turn : length (arrivals_in w.log) + length (packets left) ≡ length (packets items)
   turn =
-      let h = runs_joined F f laws alloc c items is cs run_is in
+      let h = runs_joined setting cs run_is in
       let both = length-append (arrivals_in w.log) (numbers left) in
       let same = ap length h.in_turn in
       let some = length-map (packets left) (λ p. p.number) in
@@ -37,9 +38,9 @@ module _ (F : Type 0) {R : Type 0} (f : Semantics R) (laws : FunctionLaws f) (al
   -- what waits in the input hasn't begun
   waits_on : (ms behind : List Msg) (command : Command) → left ≡ ms ++ Msg.InCommand command ∷ behind → is_begun command.op w.log ≡ false
   waits_on ms behind command e =
-      let b = (run_busy F f laws alloc c items is cs run_is).1 in
+      let b = (run_busy setting cs run_is).1 in
       let none = each_there (λ x. is_noted x.op w.log ≡ false) (commands ms) command (commands behind) (subst (λ xs. Each (λ x. is_noted x.op w.log ≡ false)
-      xs) (ap commands e ∙ commands-append ms (Msg.InCommand command ∷ behind)) (unnoted_waits (given f c items is) w b)) in
+      xs) (ap commands e ∙ commands-append ms (Msg.InCommand command ∷ behind)) (unnoted_waits (given setting) w b)) in
       (or_off (is_begun command.op w.log) (has_answered command.op w.log) none).0
 
   pub came_before : (op : ℕ) → is_begun op w.log ≡ true → (front behind : List Msg) (command : Command) → items ≡ front ++ Msg.InCommand command ∷ behind
@@ -61,4 +62,4 @@ module _ (F : Type 0) {R : Type 0} (f : Semantics R) (laws : FunctionLaws f) (al
       omega (arith, all, own))
     where
       counted : Counted items w
-      counted = (run_settles F f laws alloc c items is cs run_is).counted
+      counted = (run_settles setting cs run_is).counted

@@ -1,9 +1,9 @@
 -- In every run, a packet that came when a share had its unit is processed at its member.
 use Rattle.nf_net.proofs.Words.{◌≡◌, ℕ, ◌+◌, ◌≤◌, Bool, true, Some, List, [], ◌∷◌, ◌++◌, length, append_assoc, refl, sym, ap, ◌∙◌, arith, if◌then◌else◌, ◌==◌}
-use Rattle.nf_net.proofs.Words.{is_some, filter, Global, nat_tests, Output, FunctionLaws, Semantics, same_unit_equiv, Msg, Note, instance_node, Choice, Network}
-use Rattle.nf_net.proofs.Words.{IsRun, run, Ran, ran_of, Config, Node, times_installed, is_of, IsInput, packet_numbered, arrivals_in, dones_in, installs_in}
-use Rattle.nf_net.proofs.Words.{node_step, node_ready, first_owner, members, member_for, unit_numbered, done-append, is_sys, Given, is_diverted, S, A, by_node}
-use Rattle.nf_net.proofs.Words.{came_by, Joined, by_node-append, AllApart, Runs, run_beside, same_times, given, Unit, split}
+use Rattle.nf_net.proofs.Words.{is_some, filter, nat_tests, Output, same_unit_equiv, Msg, Note, instance_node, Choice, Network}
+use Rattle.nf_net.proofs.Words.{Ran, ran_of, Node, times_installed, is_of, packet_numbered, arrivals_in, dones_in, installs_in}
+use Rattle.nf_net.proofs.Words.{first_owner, members, member_for, unit_numbered, done-append, is_sys, Given, is_diverted, S, A, by_node}
+use Rattle.nf_net.proofs.Words.{came_by, Joined, by_node-append, AllApart, Runs, run_beside, same_times, given, Unit, split, Setting, IsCourse, world_of}
 use Rattle.proof_machines.proofs.unit.Stages as stages
 use Rattle.net_world.specs.Fold.{times}
 use Rattle.net_world.specs.Places.{AreAtMembers}
@@ -11,7 +11,7 @@ use Rattle.net_world.proofs.NumberCounts.{times-append}
 use Rattle.proof_outlines.proofs.joined.Given.{diverted_in}
 use Rattle.proof_outlines.proofs.joined.LogLemmas.{diverted_in-append}
 use Rattle.proof_machines.proofs.whole.Fronts.{ran_more}
-use Rattle.nf_net.proofs.RunWords.{arrivals_run, Busy, run_busy, Installs, run_installs, units_fit, start, count}
+use Rattle.nf_net.proofs.RunWords.{arrivals_run, Busy, run_busy, Installs, run_installs, units_fit, count}
 use Rattle.nf_net.proofs.paths.PathPromises.{came_once}
 use Rattle.nf_net.proofs.MemberLemmas.{IsSharedBy, shared_by, members_diverted, InstalledIn, installed_in, times_there}
 use Rattle.nf_net.proofs.MembersServed.{DoneAt, done_at}
@@ -22,11 +22,13 @@ times_those mine p [] = omega arith
 times_those mine p (q ∷ qs) = split (mine q) (λ b. times p (if b then q ∷ filter mine qs else filter mine qs) ≤ (if p == q then 1 else 0) + times p qs)
     (λ _. (let rest = times_those mine p qs in omega (arith, rest))) (λ _. (let rest = times_those mine p qs in omega (arith, rest)))
 
-module _ {F R : Type 0} (f : Semantics R) (c : Config) (items : List Msg) (is : IsInput f.kind c items) (n : ℕ) (count_is : n ≡ length c.names + 2)
-    (w : Network (Node F R) Msg Note) (j : Joined f (given f c items is) n w) (apart : AllApart j.nodes.controller.operations)
-    (b : Busy (given f c items is) w) (h : Installs (given f c items is) w) (few : (p : ℕ) → times p (arrivals_in w.log) ≤ 1) where
+module _ {F R : Type 0} (setting : Setting F R) (n : ℕ) (count_is : n ≡ length setting.config.names + 2) (w : Network (Node F R) Msg Note)
+    (j : Joined setting.function (given setting) n w) (apart : AllApart j.nodes.controller.operations) (b : Busy (given setting) w)
+    (h : Installs (given setting) w) (few : (p : ℕ) → times p (arrivals_in w.log) ≤ 1) where
+  open setting use {function as f, config as c, items}
+
   abbrev g : Given
-  g = given f c items is
+  g = given setting
 
   module _ (before between after : List Note) (number i : ℕ) (output : Output) (names : List (List ℕ))
       (whole : w.log ≡ before ++ Note.Arrived number ∷ (between ++ Note.Processed number i output ∷ after))
@@ -104,19 +106,17 @@ module _ {F R : Type 0} (f : Semantics R) (c : Config) (items : List Msg) (is : 
         ∙ append_assoc there.first (Note.Installed r.op ∷ there.rest) (Note.Arrived number ∷ rest) in
         let some : 1 ≤ times_installed r.op w.log =
         let is_there = ap (times_installed r.op) log ∙ times_there r.op there.first (there.rest ++ Note.Arrived number ∷ rest) in omega (arith, is_there) in
-        let o : IsOpenShare f c items is n count_is w j apart b r.op names r.its.filter = open_installed f c items is n count_is w j apart b h r.op names
+        let o : IsOpenShare setting n count_is w j apart b r.op names r.its.filter = open_installed setting n count_is w j apart b h r.op names
         r.its.filter r.its.order_is some in
-        member_is f c items is n count_is w j apart b u (units_fit f c items is number) r.op names r.its.filter o r.its.takes_it at.share at.its number i
+        member_is setting n count_is w j apart b u (units_fit setting number) r.op names r.its.filter o r.its.takes_it at.share at.its number i
         (sym at.at)
 
-module _ (F : Type 0) {R : Type 0} (f : Semantics R) (laws : FunctionLaws f) (alloc : Global) (c : Config) (items : List Msg)
-    (is : IsInput f.kind c items) where
-  abbrev first : Network (Node F R) Msg Note
-  first = start F f laws alloc c items is
+module _ {F R : Type 0} (setting : Setting F R) where
+  open setting use {function as f, config as c, items}
 
-  pub at_members : (cs : List Choice) → IsRun node_ready (node_step f) cs first → AreAtMembers c items f.kind (run (node_step f) cs first).log
+  pub at_members : (cs : List Choice) → IsCourse setting cs → AreAtMembers c items f.kind (world_of setting cs).log
   at_members cs run_is before between after number instance output names whole shared =
-      let r : Runs F f laws alloc c items is (run (node_step f) cs first) = run_beside F f laws alloc c items is cs run_is in
-      its_member f c items is (count F f laws alloc c items is) refl (run (node_step f) cs first) r.joined r.beside.kept.apart
-      (run_busy F f laws alloc c items is cs run_is).1 (run_installs F f laws alloc c items is cs run_is) (came_once f c items is
-      (run (node_step f) cs first) (arrivals_run F f laws alloc c items is cs run_is)) before between after number instance output names whole shared
+      let r : Runs setting (world_of setting cs) = run_beside setting cs run_is in
+      its_member setting (count setting) refl (world_of setting cs) r.joined r.beside.kept.apart
+      (run_busy setting cs run_is).1 (run_installs setting cs run_is) (came_once setting
+      (world_of setting cs) (arrivals_run setting cs run_is)) before between after number instance output names whole shared

@@ -66,11 +66,12 @@ module _ {R : Type 0} (f : Semantics R) (g : Given) where
           each_has cs h.1 (λ v some. q v (λ none. some (shorter f (is_chunk_of v c) c (filter (is_chunk_of v) cs) none))),
         )
 
-module _ {F R : Type 0} (here : Reached F R) (busy : AreUnderWay here.f here.c here.items here.is here.n here.w here.j) where
-  open here use {f, c, items, is, n, w, nodes, j, world}
+module _ {F R : Type 0} (here : Reached F R) (busy : AreUnderWay here.setting here.n here.w here.j) where
+  open here use {setting, n, w, nodes, j, world}
+  open setting use {function as f, config as c, items}
 
   abbrev g : Given
-  g = given f c items is
+  g = given setting
 
   -- all chunks on their way are of units
   on_named : (s r : ℕ) → s < n → r < n → Each (Named f g) (flat_map chunks_in (on_link w s r))
@@ -114,7 +115,7 @@ module _ {F R : Type 0} (here : Reached F R) (busy : AreUnderWay here.f here.c h
           by_sides : HasSides here k.op (seat_shape (S f g).F k.seat) → IsMoved u
           by_sides (Are_there e found src dst) =
               let label = each_found (OpLabel (S f g) (see (S f g) (is_sys f g.site g.packet) u k.op k.third)) k.op.num j.world.ops e k.holds.ops found in
-              let on = open_at f c items is n w j busy u k.op.num e found (label.0.0 ∙ label.1) in
+              let on = open_at setting n w j busy u k.op.num e found (label.0.0 ∙ label.1) in
               record { apart = apart; seat = k; moving = on.moving; number = on.number }
           by_sides (Rests none none_b at_a) = absurd (some (none_on_way here u apart k.op k.third
               (seat_shape (S f g).F k.seat) k.holds (third_silent (S f g).F k.seat) none))

@@ -1,13 +1,12 @@
 -- In the world of a complete run each packet of the input was processed, and each unit that has a record has it at its owner.
 use Rattle.nf_net.proofs.Words.{◌≡◌, ℕ, ◌+◌, ◌<◌, ◌≤◌, Bool, true, false, Option, Some, None, List, [], ◌∷◌, ◌++◌, map, length, append-nil, refl, sym, ap, ◌∙◌}
-use Rattle.nf_net.proofs.Words.{subst, arith, if◌then◌else◌, ◌&&◌, ◌==◌, nat_lt, slice_get, Global, filter, filter_map, Decides-eqb, slice_get_within}
-use Rattle.nf_net.proofs.Words.{slice_get-get_or, Filter, Packet, FunctionLaws, Semantics, unit_at, same_unit-true, Target, Order, Msg, Note, instance_node}
-use Rattle.nf_net.proofs.Words.{is_there, Choice, Network, IsRun, is_done, run, queue_at, at, Each, firsts, nil_right, same_of, none_in, exactly, IsSys, done_u}
-use Rattle.nf_net.proofs.Words.{not_both, AtEnd, OpenShare, find_share, moves_of, olds, ShareRests, EndsAll, At_share, end_all, WhereAll}
-use Rattle.nf_net.proofs.Words.{Apart_from_shares, Under_share, Config, Node, order_numbered, ends_last, IsInput, answers_of, times_installed, arrivals_in}
-use Rattle.nf_net.proofs.Words.{is_loose, owner, unit_numbered, node_step, node_ready, node_ended, is_of, arrived_of, processed_of, live_in, live_at}
-use Rattle.nf_net.proofs.Words.{started_with, unit_fits, is_sys, real_share, target_node, Given, place, GenuinePacket, S, A, shown, came_by, Joined, done_same}
-use Rattle.nf_net.proofs.Words.{same_times, run_beside, given, genuine, Unit, flow_of, Done, Instance, Completed, split}
+use Rattle.nf_net.proofs.Words.{subst, arith, if◌then◌else◌, ◌&&◌, ◌==◌, nat_lt, slice_get, filter, filter_map, Decides-eqb, slice_get_within, slice_get-get_or}
+use Rattle.nf_net.proofs.Words.{Filter, Packet, unit_at, same_unit-true, Target, Order, Msg, Note, instance_node, is_there, Choice, Network, is_done, queue_at}
+use Rattle.nf_net.proofs.Words.{at, Each, firsts, nil_right, same_of, none_in, exactly, IsSys, done_u, not_both, AtEnd, OpenShare, find_share, moves_of, olds}
+use Rattle.nf_net.proofs.Words.{ShareRests, EndsAll, At_share, end_all, WhereAll, Apart_from_shares, Under_share, Node, order_numbered, ends_last, answers_of}
+use Rattle.nf_net.proofs.Words.{times_installed, arrivals_in, is_loose, owner, unit_numbered, node_ended, is_of, arrived_of, processed_of, live_in, live_at}
+use Rattle.nf_net.proofs.Words.{unit_fits, is_sys, real_share, target_node, Given, place, GenuinePacket, S, A, shown, came_by, Joined, done_same, same_times}
+use Rattle.nf_net.proofs.Words.{run_beside, given, genuine, Unit, flow_of, Done, Instance, Completed, split, Setting, IsCourse, world_of}
 use Rattle.std.proofs.Common.{◌-◌}
 use Rattle.std.specs.FinMap as finite
 use Rattle.actor_net.proofs.CompleteWorlds.{done_waiting}
@@ -26,16 +25,18 @@ use Rattle.nf_net.proofs.StandbyFronts.{IsOfFront, still_some, lives_front}
 use Rattle.nf_net.proofs.UnitShares.{owner_goes}
 use Rattle.nf_net.proofs.answers.ToldCommands.{each_answered}
 
-module _ {R : Type 0} (f : Semantics R) (c : Config) (items : List Msg) (is : IsInput f.kind c items) where
+module _ {F R : Type 0} (setting : Setting F R) where
+  open setting use {function as f, config as c, items}
+
   abbrev g : Given
-  g = given f c items is
+  g = given setting
 
   abbrev laws_of : IsSys (S f g)
   laws_of = is_sys f g.site g.packet
 
-  module _ {F : Type 0} (n : ℕ) (count : n ≡ length c.names + 2) (w : Network (Node F R) Msg Note) (nodes : length w.nodes ≡ n)
+  module _ (n : ℕ) (count : n ≡ length c.names + 2) (w : Network (Node F R) Msg Note) (nodes : length w.nodes ≡ n)
       (j : Joined f g n w) (in_turn : arrivals_in w.log ++ numbers (queue_at w (at 0 0)) ≡ numbers items) (done : is_done node_ended w ≡ true)
-      (told : HomesOwn f c items is n count w j) where
+      (told : HomesOwn setting n count w j) where
     all_came : arrivals_in w.log ≡ numbers items
     all_came = sym (append-nil (arrivals_in w.log)) ∙ ap (λ xs. arrivals_in w.log ++ numbers xs) (sym (done_waiting node_ended w done (at 0 0))) ∙ in_turn
 
@@ -76,11 +77,11 @@ module _ {R : Type 0} (f : Semantics R) (c : Config) (items : List Msg) (is : Is
           by_node (Some node) e h = let there = slice_get_within w.nodes (instance_node i) node e in rw (← nodes) there
 
       done_is : done_u (S f g) u j.world.done ≡ processed_of f c items u w.log
-      done_is = done_same f c items is n w j u
+      done_is = done_same setting n w j u
 
       -- the fold of what was done
       folds : (r : R) → fold f c items None (processed_of f c items u w.log) ≡ Some r → readings.fold (S f g).F None (done_u (S f g) u j.world.done) ≡ Some r
-      folds r h = ap (readings.fold (S f g).F None) done_is ∙ sym (fold_is f c items is None (processed_of f c items u w.log)) ∙ h
+      folds r h = ap (readings.fold (S f g).F None) done_is ∙ sym (fold_is setting None (processed_of f c items u w.log)) ∙ h
 
       came_is : arrived_of f c items u w.log ≡ filter (is_of f c items u) (numbers items)
       came_is = ap (filter (is_of f c items u)) all_came
@@ -102,7 +103,7 @@ module _ {R : Type 0} (f : Semantics R) (c : Config) (items : List Msg) (is : Is
           let same : unit_numbered c items f.kind q.number ≡ u = same_unit-true (unit_numbered c items f.kind q.number) u mine in
           let unit : unit_at f.kind c.site q ≡ u = ap (unit_at f.kind c.site) h.0.same ∙ same in
           record {
-            fits = ap (unit_fits f.kind) (sym same) ∙ units_fit f c items is q.number;
+            fits = ap (unit_fits f.kind) (sym same) ∙ units_fit setting q.number;
             few = λ two. by_target two way.target (ap j.world.target (sym unit) ∙ way.node) way.there;
           }) (λ _ rest. has_packet qs h.1 p ps rest) e
         where
@@ -120,7 +121,7 @@ module _ {R : Type 0} (f : Semantics R) (c : Config) (items : List Msg) (is : Is
             by_list : (ps : List ℕ) → arrived_of f c items u w.log ≡ ps → P
             by_list [] k = none (none_in (firsts e.ran ++ e.left)
                 (λ p. same_of e.flag (firsts e.ran ++ e.left) (arrived_of f c items u w.log) e.order p ∙ ap (stages.times p) k))
-            by_list (p ∷ ps) k = some (has_packet (packets items) (genuine f c items is) p ps (sym came_is ∙ k))
+            by_list (p ∷ ps) k = some (has_packet (packets items) (genuine setting) p ps (sym came_is ∙ k))
 
         -- no packet is left
         left_none : e.left ≡ []
@@ -151,9 +152,9 @@ module _ {R : Type 0} (f : Semantics R) (c : Config) (items : List Msg) (is : Is
         -- its record is at its owner
         moves_own : (i : ℕ) (r : R) → fold f c items None (processed_of f c items u w.log) ≡ Some r → live_at w i u ≡ Some r → i ≡ owner c items u w.log
         moves_own i r h live = by_record r h (λ has.
-            let same : i ≡ j.world.target u - 2 = one_place f c items is n w nodes j u i (j.world.target u - 2) r r live (at_target r h) in
+            let same : i ≡ j.world.target u - 2 = one_place setting n w nodes j u i (j.world.target u - 2) r r live (at_target r h) in
             let two = e.two in
-            let goes : j.world.target u ≡ instance_node (owner c items u w.log) = owner_goes f c items is n w j u has.fits two in
+            let goes : j.world.target u ≡ instance_node (owner c items u w.log) = owner_goes setting n w j u has.fits two in
             omega (arith, same, two, goes))
 
       -- a unit of a share
@@ -165,14 +166,13 @@ module _ {R : Type 0} (f : Semantics R) (c : Config) (items : List Msg) (is : Is
             flag_is = s.flag_is;
             place = λ r h. (
               e.home - 2,
-              live_same e.home (home_two e s.its.found) (members_few f c items is n count w j e s.its.found e.home s.its.home_in) (Some r)
-                  (s.live ∙ folds r h),
+              live_same e.home (home_two e s.its.found) (members_few setting n count w j e s.its.found e.home s.its.home_in) (Some r) (s.live ∙ folds r h),
             );
           }
 
       ended : Ended
-      ended = by_end (end_all (S f g) (A f g) laws_of u n j.world (omega (arith, count)) quiet (sides f c items is n count w j)
-          (members_few f c items is n count w j) (came_by f g w.log u) (j.shown_is.every.unit u))
+      ended = by_end (end_all (S f g) (A f g) laws_of u n j.world (omega (arith, count)) quiet (sides setting n count w j)
+          (members_few setting n count w j) (came_by f g w.log u) (j.shown_is.every.unit u))
         where
           by_end : EndsAll (S f g) (A f g) laws_of u n j.world (came_by f g w.log u) → Ended
           by_end (As_moves e) = moves_ended e
@@ -191,7 +191,7 @@ module _ {R : Type 0} (f : Semantics R) (c : Config) (items : List Msg) (is : Is
       live_is i r live = by_fold (fold f c items None (processed_of f c items u w.log)) refl
         where
           front : IsOfFront f c items (processed_of f c items u w.log) (Some r)
-          front = subst (λ o. IsOfFront f c items (processed_of f c items u w.log) o) live (lives_front f c items is n w nodes j i u)
+          front = subst (λ o. IsOfFront f c items (processed_of f c items u w.log) o) live (lives_front setting n w nodes j i u)
 
           by_fold : (o : Option R) → fold f c items None (processed_of f c items u w.log) ≡ o → fold f c items None (processed_of f c items u w.log) ≡ Some r
           by_fold None e =
@@ -199,7 +199,7 @@ module _ {R : Type 0} (f : Semantics R) (c : Config) (items : List Msg) (is : Is
               let never : None ≡ Some more.0 = sym e ∙ more.1 in cc
           by_fold (Some s) e =
               let at = ended.place s e in
-              let same : i ≡ at.0 = one_place f c items is n w nodes j u i at.0 r s live at.1 in
+              let same : i ≡ at.0 = one_place setting n w nodes j u i at.0 r s live at.1 in
               e ∙ sym at.1 ∙ ap (λ k. live_at w k u) (sym same) ∙ live
 
       -- the live record is at the owner: where packets go, or the home of the share
@@ -209,7 +209,7 @@ module _ {R : Type 0} (f : Semantics R) (c : Config) (items : List Msg) (is : Is
           by_where : WhereAll (S f g) (A f g) laws_of u j.world (came_by f g w.log u) → i ≡ owner c items u w.log
           by_where (Apart_from_shares h none) =
               moves_own (at_end (S f g) laws_of u n (moves_of (S f g) (A f g) j.world) (omega (arith, count)) (λ a b x y off. ap olds (quiet a b x y off))
-              (sides f c items is n count w j) (arrived_of f c items u w.log) (is_loose c items u w.log) h.is) i r (live_is i r live) live
+              (sides setting n count w j) (arrived_of f c items u w.log) (is_loose c items u w.log) h.is) i r (live_is i r live) live
           by_where (Under_share x before b h o t) = split (instance_node i == x.home) (λ _. i ≡ owner c items u w.log)
               (λ on. (let home : instance_node i ≡ x.home = (Decides-eqb (instance_node i) x.home).0 on in
               let own : instance_node (owner c items u w.log) ≡ x.home = told u x before (came_by f g w.log u).diverted h in omega (arith, home, own)))
@@ -235,20 +235,18 @@ module _ {R : Type 0} (f : Semantics R) (c : Config) (items : List Msg) (is : Is
       installed = installed;
     }
 
-module _ {F R : Type 0} (f : Semantics R) (laws : FunctionLaws f) (alloc : Global) (c : Config) (items : List Msg) (is : IsInput f.kind c items) where
-  abbrev start : Network (Node F R) Msg Note
-  start = started_with alloc c items
+module _ {F R : Type 0} (setting : Setting F R) where
+  open setting use {function as f, config as c, items}
 
   -- of every run that is complete
-  pub complete_run : (cs : List Choice) → IsRun node_ready (node_step f) cs start → is_done node_ended (run (node_step f) cs start) ≡ true
-      → Completed f c items (run (node_step f) cs start)
+  pub complete_run : (cs : List Choice) → IsCourse setting cs → is_done node_ended (world_of setting cs) ≡ true → Completed f c items (world_of setting cs)
   complete_run cs ok done =
-      let h = runs_joined F f laws alloc c items is cs ok in
-      let world = after_world F f laws alloc c items is cs ok in
-      let busy = run_busy F f laws alloc c items is cs ok in
-      let changes = run_installs F f laws alloc c items is cs ok in
-      completed f c items is (length c.names + 2) refl (run (node_step f) cs start) world.1 (run_beside F f laws alloc c items is cs ok).joined h.in_turn
-      done (run_homes F f laws alloc c items is cs ok)
-      (λ last. each_answered F f laws alloc c items is last cs ok done)
-      (λ op source destination filter keep known is_done_so. done_installed f (given f c items is) (length c.names + 2) refl (run (node_step f) cs start)
+      let h = runs_joined setting cs ok in
+      let world = after_world setting cs ok in
+      let busy = run_busy setting cs ok in
+      let changes = run_installs setting cs ok in
+      completed setting (length c.names + 2) refl (world_of setting cs) world.1 (run_beside setting cs ok).joined h.in_turn
+      done (run_homes setting cs ok)
+      (λ last. each_answered setting last cs ok done)
+      (λ op source destination filter keep known is_done_so. done_installed f (given setting) (length c.names + 2) refl (world_of setting cs)
       busy.0 busy.1 changes op (ap is_moving known) done is_done_so)

@@ -1,11 +1,11 @@
 -- As long as a copy is open, no move and no share takes a unit of its filter. So the unit rests: what its owner has of it has seen all of its packets
 -- that were processed, and no other instance has anything of it.
 use Rattle.nf_net.proofs.Words.{◌≡◌, ℕ, ◌<◌, ◌≤◌, inl, inr, true, false, Some, None, List, [], ◌∷◌, length, refl, sym, ap, ◌∙◌, subst, arith, if◌then◌else◌}
-use Rattle.nf_net.proofs.Words.{◌==◌, slice_get, is_some, Decides-eqb, slice_get-get_or, Filter, Semantics, takes, same_unit-true, Msg, Note, instance_node}
+use Rattle.nf_net.proofs.Words.{◌==◌, slice_get, is_some, Decides-eqb, slice_get-get_or, Filter, takes, same_unit-true, Msg, Note, instance_node}
 use Rattle.nf_net.proofs.Words.{CopyState, Copy, Move, Network, queue_at, self, shape, each_map, Open, unit_share, as_share, moves_of, seeing, Where}
-use Rattle.nf_net.proofs.Words.{WhereAll, Apart_from_shares, Under_share, Config, Node, is_of, processed_of, IsInput, dones_in, done_where, owner}
+use Rattle.nf_net.proofs.Words.{WhereAll, Apart_from_shares, Under_share, Node, is_of, processed_of, dones_in, done_where, owner}
 use Rattle.nf_net.proofs.Words.{unit_numbered, live_at, live_in, is_whole, takes_same, unit_fits, is_sys, Given, S, A, came_by, Joined, Scene, AreApart}
-use Rattle.nf_net.proofs.Words.{AllApart, done_same, given, Unit, Instance, split}
+use Rattle.nf_net.proofs.Words.{AllApart, done_same, given, Unit, Instance, split, Setting}
 use Rattle.std.specs.Prelude.{map}
 use Rattle.std.specs.FinMap as finite
 use Rattle.actor_net.proofs.EnabledChoices.{at as at_node}
@@ -22,13 +22,15 @@ use Rattle.nf_net.proofs.RunWords.{instance_of, record_is, fold_is, units_fit}
 use Rattle.nf_net.proofs.UnitShares.{owner_goes}
 
 -- a unit of which a packet was processed is one that packets may have
-module _ {R : Type 0} (f : Semantics R) (c : Config) (items : List Msg) (is : IsInput f.kind c items) (u : Unit) where
+module _ {F R : Type 0} (setting : Setting F R) (u : Unit) where
+  open setting use {function as f, config as c, items}
+
   done_fits : (d : Done) (ds rest : List Done) → done_where (is_of f c items u) ds ≡ d ∷ rest → unit_fits f.kind u ≡ true
   done_fits d [] rest e = cc
   done_fits d (x ∷ ds) rest e = split (is_of f c items u x.number)
       (λ b. (if b then x ∷ done_where (is_of f c items u) ds else done_where (is_of f c items u) ds) ≡ d ∷ rest → unit_fits f.kind u ≡ true)
       (λ mine _. subst (λ v. unit_fits f.kind v ≡ true) (same_unit-true (unit_numbered c items f.kind x.number) u mine)
-      (units_fit f c items is x.number)) (λ _ more. done_fits d ds rest more) e
+      (units_fit setting x.number)) (λ _ more. done_fits d ds rest more) e
 
   folded_fits : (ds : List Done) (kept : R) → fold f c items None (map (λ d. d.number) (done_where (is_of f c items u) ds)) ≡ Some kept
       → unit_fits f.kind u ≡ true
@@ -38,11 +40,13 @@ module _ {R : Type 0} (f : Semantics R) (c : Config) (items : List Msg) (is : Is
       by_list [] e = let never : None ≡ Some kept = ap (λ xs. fold f c items None (map (λ d. d.number) xs)) (sym e) ∙ h in cc
       by_list (d ∷ rest) e = done_fits d ds rest e
 
-module _ {F R : Type 0} (f : Semantics R) (c : Config) (items : List Msg) (is : IsInput f.kind c items) (n : ℕ) (w : Network (Node F R) Msg Note)
-    (nodes : length w.nodes ≡ n) (j : Joined f (given f c items is) n w) (apart : AllApart j.nodes.controller.operations) (op : ℕ) (y : CopyState)
-    (filter : Filter) (there : finite.get j.nodes.controller.operations op ≡ Some (Copy y)) (filter_is : y.plan.filter ≡ Some filter) (u : Unit) where
+module _ {F R : Type 0} (setting : Setting F R) (n : ℕ) (w : Network (Node F R) Msg Note) (nodes : length w.nodes ≡ n)
+    (j : Joined setting.function (given setting) n w) (apart : AllApart j.nodes.controller.operations) (op : ℕ) (y : CopyState) (filter : Filter)
+    (there : finite.get j.nodes.controller.operations op ≡ Some (Copy y)) (filter_is : y.plan.filter ≡ Some filter) (u : Unit) where
+  open setting use {function as f, config as c, items}
+
   abbrev g : Given
-  g = given f c items is
+  g = given setting
 
   abbrev scene : Scene F f g
   scene = record { nodes = j.nodes; world = j.world; log = w.log; input = queue_at w (at_node 0 0) }
@@ -101,19 +105,18 @@ module _ {F R : Type 0} (f : Semantics R) (c : Config) (items : List Msg) (is : 
         ∙ ap Some (j.nodes_are (instance_node i) few node ∙ instance_of j.nodes (instance_node i) two) in
         let own : finite.get (j.nodes.instance (instance_node i)).table.live u ≡ Some kept = sym (ap (live_in u) found) ∙ live in
         let fits = (j.shown_is.instances (instance_node i) two few).records.fits u (ap is_some own) in
-        fold_is f c items is None (processed_of f c items u w.log)
-        ∙ ap (λ ps. readings.fold (S f g).F None ps) (sym (done_same f c items is n w j u))
-        ∙ record_is f c items is n w nodes j u (at_moves (on_by fits)) i kept live
+        fold_is setting None (processed_of f c items u w.log)
+        ∙ ap (λ ps. readings.fold (S f g).F None ps) (sym (done_same setting n w j u)) ∙ record_is setting n w nodes j u (at_moves (on_by fits)) i kept live
 
     -- and its owner has that
     pub owned : (i : ℕ) (kept : R) → instance_node i < n → owner c items u w.log ≡ i → fold f c items None (processed_of f c items u w.log) ≡ Some kept
         → live_at w i u ≡ Some kept
     owned i kept few own h =
-        let fits = folded_fits f c items is u (dones_in w.log) kept h in
+        let fits = folded_fits setting u (dones_in w.log) kept h in
         let r = rests (on_by fits) in
         let k = instance_node i in
         let two : 2 ≤ j.world.target u = subst (λ q. 2 ≤ q) (sym r.rest.target) r.rest.two in
-        let at_owner : r.owner ≡ k = sym r.rest.target ∙ owner_goes f c items is n w j u fits two ∙ ap instance_node own in
+        let at_owner : r.owner ≡ k = sym r.rest.target ∙ owner_goes setting n w j u fits two ∙ ap instance_node own in
         let node = Instance (j.nodes.instance k) in
         let found : slice_get w.nodes k ≡ Some node = slice_get-get_or w.nodes k node (rw nodes few)
         ∙ ap Some (j.nodes_are k few node ∙ instance_of j.nodes k (omega arith)) in
@@ -122,6 +125,6 @@ module _ {F R : Type 0} (f : Semantics R) (c : Config) (items : List Msg) (is : 
         ∙ ap (λ x. finite.get x.live u) (j.shown_is.instances k (omega arith) few).outline_is
         ∙ subst (λ t. finite.get (j.world.inst k).live u ≡ (if t then after (S f g).F r.done else None)) same (r.rest.live k)
         ∙ ap (readings.fold (S f g).F None) (sym r.rest.done)
-        ∙ ap (readings.fold (S f g).F None) (done_same f c items is n w j u)
-        ∙ sym (fold_is f c items is None (processed_of f c items u w.log))
+        ∙ ap (readings.fold (S f g).F None) (done_same setting n w j u)
+        ∙ sym (fold_is setting None (processed_of f c items u w.log))
         ∙ h

@@ -1,16 +1,16 @@
 -- Where the source of a copy of units is to give what it has, the copy is under way: so what the source has of the units has seen all, and what it
 -- sends are the records of them all.
 use Rattle.nf_net.proofs.Words.{◌≡◌, ℕ, ◌+◌, ◌<◌, Bool, true, false, Option, Some, None, List, [], ◌∷◌, length, refl, sym, ap, ◌∙◌, subst, arith, ◌&&◌, ◌||◌}
-use Rattle.nf_net.proofs.Words.{not, is_some, Global, nat_tests, Filter, place_of, FunctionLaws, Semantics, takes, one_unit, Records, taken_by, Answer, Msg}
-use Rattle.nf_net.proofs.Words.{Note, instance_node, CopyState, Operation, Move, Copy, Share, InstanceState, selected_chunks, Choice, Network, IsRun, run}
-use Rattle.nf_net.proofs.Words.{Config, Node, answers_of, is_begun, has_answered, is_share, IsInput, job_of, node_step, node_ready, exported_for, is_whole}
-use Rattle.nf_net.proofs.Words.{Given, IsCopyPlan, Joined, given, Unit, Order, records_of, Done, UnitCopy, IsOrdered, IsToGive, run_beside}
+use Rattle.nf_net.proofs.Words.{not, is_some, nat_tests, Filter, place_of, FunctionLaws, Semantics, takes, one_unit, Records, taken_by, Answer, Msg, Note}
+use Rattle.nf_net.proofs.Words.{instance_node, CopyState, Operation, Move, Copy, Share, InstanceState, selected_chunks, Choice, Network, Node, answers_of}
+use Rattle.nf_net.proofs.Words.{is_begun, has_answered, is_share, job_of, exported_for, is_whole, Given, IsCopyPlan, Joined, given, Unit, Order, records_of}
+use Rattle.nf_net.proofs.Words.{Done, UnitCopy, IsOrdered, IsToGive, run_beside, Setting, start, IsCourse, world_of}
 use Rattle.std.specs.FinMap as finite
 use Rattle.record_table.proofs.MadeChunks.{table_read}
 use Rattle.record_table.proofs.RecordLookUps.{sound_retain_keys}
 use Rattle.record_table.specs.Table.{AreSound}
 use Rattle.proof_outlines.proofs.joined.Joined.{IsCopy, is_whole_if}
-use Rattle.nf_net.proofs.RunWords.{unanswered, Busy, keeps_is, run_busy, start, after_world}
+use Rattle.nf_net.proofs.RunWords.{unanswered, Busy, keeps_is, run_busy, after_world}
 use Rattle.nf_net.proofs.ArrivedCommands.{came_before}
 use Rattle.nf_net.proofs.CopiedUnits.{had, owned}
 use Rattle.nf_net.proofs.CopyFacts.{WasKept}
@@ -32,25 +32,26 @@ module _ {F R : Type 0} (f : Semantics R) (laws : FunctionLaws f) (i : InstanceS
       ∙ finite.get-retain_keys i.table.live (takes filter) u (λ x same. ap (takes filter) (sym (one_unit u x same)))
       ∙ rw on live
 
-module _ (F : Type 0) {R : Type 0} (f : Semantics R) (laws : FunctionLaws f) (alloc : Global) (c : Config) (items : List Msg) (is : IsInput f.kind c items)
-    (cs : List Choice) (run_is : IsRun node_ready (node_step f) cs (start F f laws alloc c items is)) where
+module _ {F R : Type 0} (setting : Setting F R) (cs : List Choice) (run_is : IsCourse setting cs) where
+  open setting use {function as f, config as c, items}
+
   abbrev g : Given
-  g = given f c items is
+  g = given setting
 
   abbrev n : ℕ
   n = length c.names + 2
 
   abbrev w : Network (Node F R) Msg Note
-  w = run (node_step f) cs (start F f laws alloc c items is)
+  w = world_of setting cs
 
   abbrev j : Joined f g n w
-  j = (run_beside F f laws alloc c items is cs run_is).joined
+  j = (run_beside setting cs run_is).joined
 
   b : Busy g w
-  b = (run_busy F f laws alloc c items is cs run_is).1
+  b = (run_busy setting cs run_is).1
 
   nodes : length w.nodes ≡ n
-  nodes = (after_world F f laws alloc c items is cs run_is).1
+  nodes = (after_world setting cs run_is).1
 
   module _ (copy : UnitCopy) (of : IsOrdered c items copy) where
     -- the open copy of the order
@@ -101,10 +102,10 @@ module _ (F : Type 0) {R : Type 0} (f : Semantics R) (laws : FunctionLaws f) (al
     -- its answer is that it is done
     answered_done : (a : Answer) → is_begun copy.op w.log ≡ true → answers_of copy.op w.log ≡ a ∷ [] → answers_of copy.op w.log ≡ Done ∷ []
     answered_done a on e = subst (λ x. answers_of copy.op w.log ≡ x ∷ [])
-        ((verdicts F f laws alloc c items is cs run_is).copied copy.op of.source of.destination (Some copy.filter) a of.order_is on e) e
+        ((verdicts setting cs run_is).copied copy.op of.source of.destination (Some copy.filter) a of.order_is on e) e
 
     -- so one that has given nothing isn't answered
-    module _ (found : answers_of copy.op w.log ≡ Done ∷ [] → WasKept f c items (start F f laws alloc c items is) cs w.log copy)
+    module _ (found : answers_of copy.op w.log ≡ Done ∷ [] → WasKept f c items (start setting) cs w.log copy)
         (on : is_begun copy.op w.log ≡ true) (none : exported_for copy.op w.log ≡ None) where
       not_answered : (xs : List Answer) → answers_of copy.op w.log ≡ xs → answers_of copy.op w.log ≡ []
       not_answered [] e = e
@@ -122,11 +123,11 @@ module _ (F : Type 0) {R : Type 0} (f : Semantics R) (laws : FunctionLaws f) (al
           let few : instance_node copy.source < n = (let from = its.from in let same = o.from_is in grind (arith, nat_tests)) in
           record {
             has_begun = on;
-            came = came_before F f laws alloc c items is cs run_is copy.op on;
-            had = λ u kept taken live. had f c items is n w nodes j
-                (run_beside F f laws alloc c items is cs run_is).beside.kept.apart copy.op o.state copy.filter o.there o.filter_is u whole taken
+            came = came_before setting cs run_is copy.op on;
+            had = λ u kept taken live. had setting n w nodes j
+                (run_beside setting cs run_is).beside.kept.apart copy.op o.state copy.filter o.there o.filter_is u whole taken
                 copy.source kept (omega arith) few live;
-            owned = λ u kept taken own folds. owned f c items is n w nodes j
-                (run_beside F f laws alloc c items is cs run_is).beside.kept.apart copy.op o.state copy.filter o.there o.filter_is u whole
+            owned = λ u kept taken own folds. owned setting n w nodes j
+                (run_beside setting cs run_is).beside.kept.apart copy.op o.state copy.filter o.there o.filter_is u whole
                 taken copy.source kept few own folds;
           }

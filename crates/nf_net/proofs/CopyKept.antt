@@ -1,21 +1,22 @@
 -- An instance that takes a copy's chunks has then standing by, of each unit that they bring, the record of a front that goes on from the one that came.
 use Rattle.nf_net.proofs.Words.{◌≡◌, ℕ, suc, ◌≤◌, Some, None, List, ◌++◌, length, refl, sym, ap, ◌∙◌, subst, arith, slice_get, slice_get-get_or, Chunk, newest}
-use Rattle.nf_net.proofs.Words.{FunctionLaws, Semantics, either, newest_of, each_newest, Msg, Note, instance_node, InstanceState, instance_step, Network}
-use Rattle.nf_net.proofs.Words.{world_next, at, Takes, Outcome, taken_outcome, Config, Node, IsFront, processed_of, most_counted, IsInput, job_of, node_step}
-use Rattle.nf_net.proofs.Words.{standby_at, standby_in, StandsBy, standby_keeps, Given, place, chunks_good, AreGoodChunks, Joined, node_of, given, Unit}
-use Rattle.nf_net.proofs.Words.{records_of, Instance}
+use Rattle.nf_net.proofs.Words.{either, newest_of, each_newest, Msg, Note, instance_node, InstanceState, instance_step, Network, world_next, at, Takes, Outcome}
+use Rattle.nf_net.proofs.Words.{taken_outcome, Node, IsFront, processed_of, most_counted, job_of, node_step, standby_at, standby_in, StandsBy, standby_keeps}
+use Rattle.nf_net.proofs.Words.{Given, place, chunks_good, AreGoodChunks, Joined, node_of, given, Unit, records_of, Instance, Setting}
 use Rattle.std.specs.FinMap as finite
 use Rattle.instance_worker.specs.Instance.{Step}
 use Rattle.net_world.specs.Fold.{fold}
 use Rattle.nf_net.proofs.FrontLemmas.{front_more, longer}
 use Rattle.nf_net.proofs.StandbyFronts.{IsOfFront, later, stands_front, still_some, went_more}
 
-module _ {F R : Type 0} (f : Semantics R) (laws : FunctionLaws f) (c : Config) (items : List Msg) (is : IsInput f.kind c items)
-    (n : ℕ) (w : Network (Node F R) Msg Note) (j : Joined f (given f c items is) n w) (y p op : ℕ) (chunks : List Chunk)
-    (rest : List Msg) (takes : Takes (node_step f) n w (suc (suc y)) p (node_of j.nodes (suc (suc y))) (Msg.Standby op chunks) rest)
-    (good : AreGoodChunks f (given f c items is) chunks) where
+module _ {F R : Type 0} (setting : Setting F R) (n : ℕ) (w : Network (Node F R) Msg Note) (j : Joined setting.function (given setting) n w) (y p op : ℕ)
+    (chunks : List Chunk) (rest : List Msg)
+    (takes : Takes (node_step setting.function) n w (suc (suc y)) p (node_of j.nodes (suc (suc y))) (Msg.Standby op chunks) rest)
+    (good : AreGoodChunks setting.function (given setting) chunks) where
+  open setting use {function as f, laws, config as c, items}
+
   abbrev g : Given
-  g = given f c items is
+  g = given setting
 
   abbrev k : ℕ
   k = suc (suc y)
@@ -55,10 +56,10 @@ module _ {F R : Type 0} (f : Semantics R) (laws : FunctionLaws f) (c : Config) (
       let all = processed_of f c items u v.log in
       let more : processed_of f c items u (w.log ++ did.notes) ≡ all = ap (processed_of f c items u) (sym left.log) in
       let held : IsOfFront f c items all (standby_at w y u) = subst (λ zs. IsOfFront f c items zs (standby_at w y u)) more
-      (later f c items u w.log did.notes (standby_at w y u) (stands_front f c items is n w takes.count j y u)) in
+      (later f c items u w.log did.notes (standby_at w y u) (stands_front setting n w takes.count j y u)) in
       let came : IsFront xs all = subst (λ zs. IsFront xs zs) (sym (went_more f c items u w.log did.notes) ∙ more)
       (front_more xs (processed_of f c items u w.log) (processed_of f c items u did.notes) front) in
-      let it = longer f laws c items is all few held.front xs held.is_front came in
+      let it = longer setting all few held.front xs held.is_front came in
       let some = still_some f c items xs it.front kept it.since folds in
       let now : standby_at v y u ≡ fold f c items None it.front =
       ap (λ h. h u) now_is ∙ newer_is u

@@ -1,19 +1,19 @@
 -- In every run what a copy of units brings is known on each link; and where the copy is answered that it is done, what its source had, or what is newer,
 -- stood by at its destination.
 use Rattle.nf_net.proofs.Words.{◌≡◌, ℕ, zero, suc, ◌+◌, ◌≤◌, true, false, inl, inr, Some, None, List, [], ◌∷◌, ◌++◌, append-nil, length, refl, sym, ap, ◌∙◌}
-use Rattle.nf_net.proofs.Words.{subst, arith, ◌==◌, slice_get, Global, nat_tests, slice_get-get_or, Filter, Chunk, FunctionLaws, Semantics, Msg, Note, units_in}
-use Rattle.nf_net.proofs.Words.{instance_node, InstanceState, selected_chunks, instance_step, switch_step, Choice, Network, IsRun, run, world_next, at}
+use Rattle.nf_net.proofs.Words.{subst, arith, ◌==◌, slice_get, nat_tests, slice_get-get_or, Filter, Chunk, Semantics, Msg, Note, units_in}
+use Rattle.nf_net.proofs.Words.{instance_node, InstanceState, selected_chunks, instance_step, switch_step, Choice, Network, run, world_next, at}
 use Rattle.nf_net.proofs.Words.{opening_on_links, run_more, Takes, taken_outcome, EachSent, OnLinks, on_links_after, total_after, Config, Node, answers_of}
-use Rattle.nf_net.proofs.Words.{is_begun, IsFront, processed_of, is_item, most_counted, IsInput, job_of, node_step, node_ready, live_at, live_in, StandsBy}
+use Rattle.nf_net.proofs.Words.{is_begun, IsFront, processed_of, is_item, most_counted, job_of, node_step, live_at, live_in, StandsBy}
 use Rattle.nf_net.proofs.Words.{first_nodes, exported_for, before_export, answers_of-append, all_each, Given, Label, Joined, node_of, given, count_at_start}
-use Rattle.nf_net.proofs.Words.{Unit, Done, Instance, UnitCopy, IsOrdered, Runs}
+use Rattle.nf_net.proofs.Words.{Unit, Done, Instance, UnitCopy, IsOrdered, Runs, Setting, start, IsCourse, world_of}
 use Rattle.std.specs.FinMap as finite
 use Rattle.nf_function.specs.Units as filters
 use Rattle.instance_worker.specs.Instance.{on_get}
 use Rattle.actor_net.proofs.WeightLaws.{Each}
 use Rattle.proof_machines.proofs.unit.Labels as labels
 use Rattle.proof_outlines.proofs.joined.CopyAnswers.{IsAnswer, get_sent, standby_sent, put_all_sent, other_none}
-use Rattle.nf_net.proofs.RunWords.{next_in_run, runs_joined, none_answered, other_not_answered, switch_hands, instance_says, once, start, run_keeps, each_item}
+use Rattle.nf_net.proofs.RunWords.{next_in_run, runs_joined, none_answered, other_not_answered, switch_hands, instance_says, once, run_keeps, each_item}
 use Rattle.nf_net.proofs.RunWords.{each_sent}
 use Rattle.nf_net.proofs.CopyTurns.{all_none, controller_did}
 use Rattle.nf_net.proofs.CopyFacts.{AreGiven, HasGiven, WasKept, Told, given_still, kept_still, links_still}
@@ -50,13 +50,14 @@ module _ {F R : Type 0} (f : Semantics R) (c : Config) (items : List Msg) (g : G
   items_told : (ms : List Msg) → labels.Each (λ item. is_item item ≡ true) ms → Each (Told f c items first cs log 0 0) ms
   items_told = each_item (Told f c items first cs log 0 0) (λ p. tt) (λ k. tt) tt tt
 
-module _ (F : Type 0) {R : Type 0} (f : Semantics R) (laws : FunctionLaws f) (alloc : Global) (c : Config) (items : List Msg)
-    (is : IsInput f.kind c items) where
+module _ {F R : Type 0} (setting : Setting F R) where
+  open setting use {function as f, laws, alloc, config as c, items, is_input as is}
+
   abbrev g : Given
-  g = given f c items is
+  g = given setting
 
   abbrev first : Network (Node F R) Msg Note
-  first = start F f laws alloc c items is
+  first = start setting
 
   abbrev Tells : List Choice → List Note → ℕ → ℕ → Msg → Type 0
   Tells = Told f c items first
@@ -68,14 +69,14 @@ module _ (F : Type 0) {R : Type 0} (f : Semantics R) (laws : FunctionLaws f) (al
 
   start_copying : Copying [] first
   start_copying = record {
-    says = opening_on_links Note (first_nodes {F = F} {R = R} alloc c) items (Tells [] []) (let count = count_at_start F f alloc c items is in
+    says = opening_on_links Note (first_nodes {F = F} {R = R} alloc c) items (Tells [] []) (let count = count_at_start setting in
         omega (arith, count)) (items_told f c items g first [] [] items (all_each (λ item. is_item item ≡ true) items is.only_items));
     found = λ copy of e. cc;
   }
 
-  module _ (cs : List Choice) (r : Runs F f laws alloc c items is (run (node_step f) cs first)) (k p : ℕ) (h : Copying cs (run (node_step f) cs first)) where
+  module _ (cs : List Choice) (r : Runs setting (world_of setting cs)) (k p : ℕ) (h : Copying cs (world_of setting cs)) where
     abbrev w : Network (Node F R) Msg Note
-    w = run (node_step f) cs first
+    w = world_of setting cs
 
     abbrev j : Joined f g (length c.names + 2) w
     j = r.joined
@@ -122,8 +123,8 @@ module _ (F : Type 0) {R : Type 0} (f : Semantics R) (laws : FunctionLaws f) (al
       other : ((op : ℕ) → answers_of op (node_step f node p m).notes ≡ []) → EachSent (Tells later log) k (node_step f node p m).sends → Leaves
       other none says = record { says = says; found = λ copy of e. (let never = sym (none copy.op) ∙ e in cc) }
 
-  module _ (cs : List Choice) (run_is : IsRun node_ready (node_step f) cs first) (r : Runs F f laws alloc c items is (run (node_step f) cs first)) (p : ℕ)
-      (h : Copying cs (run (node_step f) cs first)) (rest : List Msg) where
+  module _ (cs : List Choice) (run_is : IsCourse setting cs) (r : Runs setting (world_of setting cs)) (p : ℕ)
+      (h : Copying cs (world_of setting cs)) (rest : List Msg) where
     at_switch : (m : Msg) → Label f g p 0 m → EachSent (Label f g) 0 (node_step f (node_of (j cs r 0 p h).nodes 0) p m).sends
         → (takes : Takes (node_step f) (length c.names + 2) (w cs r 0 p h) 0 p (node_of (j cs r 0 p h).nodes 0) m rest)
         → Leaves cs r 0 p h (node_of (j cs r 0 p h).nodes 0) m rest takes
@@ -138,7 +139,7 @@ module _ (F : Type 0) {R : Type 0} (f : Semantics R) (laws : FunctionLaws f) (al
         → Leaves cs r 1 p h (node_of (j cs r 1 p h).nodes 1) m rest takes
     at_controller m label takes =
         let x = j cs r 1 p h in
-        let did = controller_did f c items is first cs (at 1 p) (w cs r 1 p h).log x.nodes.controller x.world.ops x.world.shares x.world.next p
+        let did = controller_did setting first cs (at 1 p) (w cs r 1 p h).log x.nodes.controller x.world.ops x.world.shares x.world.next p
         x.shown_is.controller m label (was cs r 1 p h (node_of x.nodes 1) m rest takes) in
         record { says = did.says; found = did.found }
 
@@ -174,7 +175,7 @@ module _ (F : Type 0) {R : Type 0} (f : Semantics R) (laws : FunctionLaws f) (al
             let none = none_once f g op false (length c.names + 2) z (node_step f (Instance i) p m).sends (λ never. absurd (omega (arith, never))) sent in
             let own : (op == op) ≡ true = grind (arith, nat_tests) in
             let one : once false op m ≡ 1 = rw own refl in
-            let judging = run_judging F f laws alloc c items is cs run_is in
+            let judging = run_judging setting cs run_is in
             let most = judging.once op false in
             let few = used_few (finite.get judging.controller.operations op) (is_begun op (w cs r z p h).log) false in
             none_exported op (w cs r z p h).log (omega (arith, weight, none, one, most, few))
@@ -208,7 +209,7 @@ module _ (F : Type 0) {R : Type 0} (f : Semantics R) (laws : FunctionLaws f) (al
                 before = cs;
                 later = at z p ∷ [];
                 whole = refl;
-                to_give = to_give F f laws alloc c items is cs run_is copy of (h.found copy of) has_begun (ap (λ q. exported_for q log0) same ∙ none_before);
+                to_give = to_give setting cs run_is copy of (h.found copy of) has_begun (ap (λ q. exported_for q log0) same ∙ none_before);
                 rest = notes_of m;
                 log_is = refl;
                 given = us;
@@ -243,7 +244,7 @@ module _ (F : Type 0) {R : Type 0} (f : Semantics R) (laws : FunctionLaws f) (al
           where
             stood : (copy : UnitCopy) (it : AreGiven f c items first cs (w cs r z p h).log copy chunks) → y ≡ copy.destination
                 → (u : Unit) (kept : R) → filters.takes copy.filter u ≡ true → live_at (run (node_step f) it.by.before first) copy.source u ≡ Some kept
-                → (now : StandsBy (job_of f c items) (run (node_step f) (cs ++ at z p ∷ []) first) copy.destination u)
+                → (now : StandsBy (job_of f c items) (world_of setting (cs ++ at z p ∷ [])) copy.destination u)
                 × IsFront (processed_of f c items u (run (node_step f) it.by.before first).log) now.front
             stood copy it at_destination u kept taken_so live =
                 let xs = processed_of f c items u (run (node_step f) it.by.before first).log in
@@ -252,9 +253,9 @@ module _ (F : Type 0) {R : Type 0} (f : Semantics R) (laws : FunctionLaws f) (al
                   rest = processed_of f c items u it.by.rest;
                   whole = sym (went_more f c items u (run (node_step f) it.by.before first).log it.by.rest) ∙ ap (processed_of f c items u) (sym it.by.log_is);
                 } in
-                let now = kept_at f laws c items is (length c.names + 2) (w cs r z p h) x y p op chunks rest takes label.1 u xs kept front folds
+                let now = kept_at setting (length c.names + 2) (w cs r z p h) x y p op chunks rest takes label.1 u xs kept front folds
                 (it.bring u kept taken_so live) (few u) in
-                subst (λ d. (now : StandsBy (job_of f c items) (run (node_step f) (cs ++ at z p ∷ []) first) d u) × IsFront xs now.front) at_destination (subst
+                subst (λ d. (now : StandsBy (job_of f c items) (world_of setting (cs ++ at z p ∷ [])) d u) × IsFront xs now.front) at_destination (subst
                 (λ a. (now : StandsBy (job_of f c items) a y u) × IsFront xs now.front) (run_more (node_step f) cs (at z p) first (w cs r z p h) refl) now)
 
       answer_told : (m : Msg) (op : ℕ) (sends : List (ℕ × Msg)) → ((copy : UnitCopy) → copy.op ≡ op → IsOrdered c items copy
@@ -277,7 +278,7 @@ module _ (F : Type 0) {R : Type 0} (f : Semantics R) (laws : FunctionLaws f) (al
       tells (Msg.AllChunk op chunk) label sent takes few = tt
       tells (Msg.Kept op) label sent takes few = tt
       tells m label sent takes few =
-          all_none f c items is first cs (at z p) (w cs r z p h).log (notes_of m) z (instance_step f i m).sends (other_none f i m refl)
+          all_none setting first cs (at z p) (w cs r z p h).log (notes_of m) z (instance_step f i m).sends (other_none f i m refl)
 
       at_instance : (m : Msg) → Label f g p z m → EachSent (Label f g) z (instance_step f i m).sends → (takes : TakesHere m)
           → ((u : Unit) → length (processed_of f c items u (world_next (node_step f) (w cs r z p h) (at z p)).log) ≤ most_counted)
@@ -296,7 +297,7 @@ module _ (F : Type 0) {R : Type 0} (f : Semantics R) (laws : FunctionLaws f) (al
         leaves cs r (suc (suc y)) p h (node_of (j cs r (suc (suc y)) p h).nodes (suc (suc y))) m rest takes (at_instance y m label sent takes few)
 
   -- every run keeps it
-  pub run_copying : (cs : List Choice) → IsRun node_ready (node_step f) cs first → Copying cs (run (node_step f) cs first)
-  run_copying = run_keeps F f laws alloc c items is Copying start_copying (λ ds ok d s h. each_next ds ok s.runs d.port h s.taking.rest d.node
-      s.taking.message s.takes s.taken.label s.labels (room F f laws alloc c items is (world_next (node_step f) (run (node_step f) ds first) d)
-      (next_in_run F f laws alloc c items is (run (node_step f) ds first) d s (runs_joined F f laws alloc c items is ds ok).in_turn)))
+  pub run_copying : (cs : List Choice) → IsCourse setting cs → Copying cs (world_of setting cs)
+  run_copying = run_keeps setting Copying start_copying (λ ds ok d s h. each_next ds ok s.runs d.port h s.taking.rest d.node
+      s.taking.message s.takes s.taken.label s.labels (room setting (world_next (node_step f) (world_of setting ds) d)
+      (next_in_run setting (world_of setting ds) d s (runs_joined setting ds ok).in_turn)))

@@ -1,10 +1,10 @@
 -- What the controller tells while a copy is open, turn by turn.
 use Rattle.nf_net.proofs.Words.{◌≡◌, ℕ, Bool, true, false, Option, Some, None, List, [], ◌∷◌, ◌++◌, map, refl, sym, ap, ◌∙◌, subst, arith, if◌then◌else◌, ◌==◌}
-use Rattle.nf_net.proofs.Words.{◌||◌, or-true, Decides-eqb, nat_tests, Filter, place_of, Chunk, Semantics, stored_of, FullCell, Answer, Order, Msg, Note, op_of}
+use Rattle.nf_net.proofs.Words.{◌||◌, or-true, Decides-eqb, nat_tests, Filter, place_of, Chunk, stored_of, FullCell, Answer, Order, Msg, Note, op_of}
 use Rattle.nf_net.proofs.Words.{instance_node, MoveState, MoveRow, row_in, CopyState, ShareState, Operation, Move, Copy, Share, turn_of, turn_of_move}
-use Rattle.nf_net.proofs.Words.{turn_of_copy, ControllerState, Choice, Network, EachSent, Each, Open, OpenShare, Config, Node, is_begun, answers_of, IsInput}
+use Rattle.nf_net.proofs.Words.{turn_of_copy, ControllerState, Choice, Network, EachSent, Each, Open, OpenShare, Node, is_begun, answers_of}
 use Rattle.nf_net.proofs.Words.{has_begun-append, sent-append, row_by, CopyTurn, Idle, Hands, Hands_all, Ends, hands, copy_turn, NotShared, noted, is_uncopied}
-use Rattle.nf_net.proofs.Words.{all_sent, TurnSo, Given, IsCopyPlan, Label, given, Done, UnitCopy, IsOrdered, split}
+use Rattle.nf_net.proofs.Words.{all_sent, TurnSo, Given, IsCopyPlan, Label, given, Done, UnitCopy, IsOrdered, split, Setting, start}
 use Rattle.std.specs.FinMap as finite
 use Rattle.copy_share.specs.Copy as copying
 use Rattle.ctrl_node.specs.Controller as ctrl
@@ -18,10 +18,11 @@ use Rattle.nf_net.proofs.answers.ControllerCases.{OpensBy, Opens_copy, by_comman
 use Rattle.nf_net.proofs.CopyFacts.{WasKept, Told, told_still}
 use Rattle.nf_net.proofs.CopyController.{row_ends, not_refused, is_shared, answer_shared}
 
-module _ {F R : Type 0} (f : Semantics R) (c : Config) (items : List Msg) (is : IsInput f.kind c items) (start : Network (Node F R) Msg Note) (cs : List Choice)
-    (d : Choice) (log : List Note) where
+module _ {F R : Type 0} (setting : Setting F R) (start : Network (Node F R) Msg Note) (cs : List Choice) (d : Choice) (log : List Note) where
+  open setting use {function as f, config as c, items}
+
   abbrev g : Given
-  g = given f c items is
+  g = given setting
 
   -- what is known after this choice, which notes this
   abbrev Tells : List Note → ℕ → ℕ → Msg → Type 0

@@ -1,9 +1,9 @@
 -- Each choice of a run keeps that the switch counts the commands that wait for their answer.
 use Rattle.nf_net.proofs.Words.{◌≡◌, ◌≢◌, ℕ, zero, suc, ◌+◌, ◌<◌, ◌≤◌, Bool, true, false, List, [], ◌∷◌, ◌++◌, length, length-append, drop, append_assoc, refl}
-use Rattle.nf_net.proofs.Words.{sym, ap, ◌∙◌, subst, arith, ◌&&◌, ◌==◌, nat_lt, Global, nat_tests, Decides-eqb, Decides-ltb, FunctionLaws, Semantics, Answer}
+use Rattle.nf_net.proofs.Words.{sym, ap, ◌∙◌, subst, arith, ◌&&◌, ◌==◌, nat_lt, nat_tests, Decides-eqb, Decides-ltb, Answer}
 use Rattle.nf_net.proofs.Words.{Msg, Note, SwitchState, switch_step, takes_in, controller_step, Network, reaches, world_next, queue_at, at, Takes}
-use Rattle.nf_net.proofs.Words.{taken_outcome, less_first, EachSent, total, sent_weight, total_after, Config, Node, Switch, has_answered, answers_of, commands}
-use Rattle.nf_net.proofs.Words.{IsInput, node_step, node_ready, answers_of-append, known, Given, Label, Joined, node_of, given, split}
+use Rattle.nf_net.proofs.Words.{taken_outcome, less_first, EachSent, total, sent_weight, total_after, Node, Switch, has_answered, answers_of, commands}
+use Rattle.nf_net.proofs.Words.{node_step, node_ready, answers_of-append, known, Given, Label, Joined, node_of, given, split, Setting}
 use Rattle.actor_net.specs.Network.{is_input}
 use Rattle.nf_net.proofs.RunWords.{answering, other_not_answered, switch_hands, instance_says, Busy, SaysSo, SaysSo.Neither, SaysSo.Begins, SaysSo.Answers}
 use Rattle.nf_net.proofs.RunWords.{controller_acts}
@@ -12,10 +12,11 @@ use Rattle.nf_net.proofs.answers.ToldCommands.{some_answers}
 use Rattle.nf_net.proofs.SettleSteps.{switch_in, asking, Counted, InputGoes, InputGoes.Stays, InputGoes.Loses, no_answer_to, none_sent, asked_there}
 use Rattle.nf_net.proofs.SettleSteps.{switch_counts, few, none_waits}
 
-module _ (F : Type 0) {R : Type 0} (f : Semantics R) (laws : FunctionLaws f) (alloc : Global) (c : Config) (items : List Msg)
-    (is : IsInput f.kind c items) where
+module _ {F R : Type 0} (setting : Setting F R) where
+  open setting use {function as f, config as c, items, is_input as is}
+
   abbrev g : Given
-  g = given f c items is
+  g = given setting
 
   abbrev n : ℕ
   n = length c.names + 2

@@ -1,7 +1,7 @@
 -- Of two fronts of what was processed of a unit the newer record is that of the longer, and equal records are those of one front.
 use Rattle.nf_net.proofs.Words.{◌≡◌, ℕ, ◌+◌, ◌<◌, ◌≤◌, Bool, true, false, Option, Some, None, List, [], ◌∷◌, ◌++◌, length, length-append, append_assoc}
-use Rattle.nf_net.proofs.Words.{append-nil, refl, sym, ap, ◌∙◌, arith, if◌then◌else◌, nat_le, nat_cmp, Ordering, Less, Greater, nat_tests, newest, FunctionLaws}
-use Rattle.nf_net.proofs.Words.{Semantics, either, Msg, Config, packet_numbered, most_counted, IsInput, IsFront, all_fit}
+use Rattle.nf_net.proofs.Words.{append-nil, refl, sym, ap, ◌∙◌, arith, if◌then◌else◌, nat_le, nat_cmp, Ordering, Less, Greater, nat_tests, newest, Setting}
+use Rattle.nf_net.proofs.Words.{Semantics, either, packet_numbered, most_counted, IsFront, all_fit}
 use Rattle.std.specs.Cmp.{nat_cmp_is}
 use Rattle.std.specs.Cmp.Lexicographic.{slice_cmp}
 use Rattle.std.specs.Ordering.{is_gt, ordering_then}
@@ -77,66 +77,68 @@ module _ {R : Type 0} (f : Semantics R) where
   held_newest (Some a) None more = refl
   held_newest (Some a) (Some b) more = let newer = more_newer a b more in rw newer refl
 
-  module _ (laws : FunctionLaws f) (c : Config) (items : List Msg) (is : IsInput f.kind c items) where
-    abbrev kept_of : List ℕ → Option R
-    kept_of ps = fold f c items None ps
+module _ {F R : Type 0} (setting : Setting F R) where
+  open setting use {function as f, laws, config as c, items}
 
-    -- a fold counts its packets
-    fold_counts : (kept : Option R) (ps : List ℕ) → packets_in f kept + length ps ≤ most_counted
-        → packets_in f (fold f c items kept ps) ≡ packets_in f kept + length ps
-    fold_counts kept [] room = omega arith
-    fold_counts kept (p ∷ ps) room =
-        let transport = (all_fit f c items is p).transport in
-        let next : Option R = Some (f.stepped c.site kept (packet_numbered items p)).kept in
-        let one : packets_in f next ≡ packets_in f kept + 1 = laws.counts c.site kept (packet_numbered items p) ∙ min-eq_left (omega (arith, room)) in
-        let rest = fold_counts next ps (omega (arith, room, one)) in
-        rw transport (omega (arith, rest, one))
+  abbrev kept_of : List ℕ → Option R
+  kept_of ps = fold f c items None ps
 
-    counts : (ps : List ℕ) → length ps ≤ most_counted → packets_in f (kept_of ps) ≡ length ps
-    counts ps room = let all = fold_counts None ps (omega (arith, room)) in omega (arith, all)
+  -- a fold counts its packets
+  fold_counts : (kept : Option R) (ps : List ℕ) → packets_in f kept + length ps ≤ most_counted
+      → packets_in f (fold f c items kept ps) ≡ packets_in f kept + length ps
+  fold_counts kept [] room = omega arith
+  fold_counts kept (p ∷ ps) room =
+      let transport = (all_fit setting p).transport in
+      let next : Option R = Some (f.stepped c.site kept (packet_numbered items p)).kept in
+      let one : packets_in f next ≡ packets_in f kept + 1 = laws.counts c.site kept (packet_numbered items p) ∙ min-eq_left (omega (arith, room)) in
+      let rest = fold_counts next ps (omega (arith, room, one)) in
+      rw transport (omega (arith, rest, one))
 
-    module _ (all : List ℕ) (room : length all ≤ most_counted) where
-      counts_front : (xs : List ℕ) → IsFront xs all → packets_in f (kept_of xs) ≡ length xs
-      counts_front xs h = counts xs (let short = front_length xs all h in omega (arith, short, room))
+  counts : (ps : List ℕ) → length ps ≤ most_counted → packets_in f (kept_of ps) ≡ length ps
+  counts ps room = let all = fold_counts None ps (omega (arith, room)) in omega (arith, all)
 
-      -- equal records are those of one front
-      pub one_front : (xs ys : List ℕ) → IsFront xs all → IsFront ys all → kept_of xs ≡ kept_of ys → xs ≡ ys
-      one_front xs ys h g same = one_length xs ys all h g (sym (counts_front xs h) ∙ ap (packets_in f) same ∙ counts_front ys g)
+  module _ (all : List ℕ) (room : length all ≤ most_counted) where
+    counts_front : (xs : List ℕ) → IsFront xs all → packets_in f (kept_of xs) ≡ length xs
+    counts_front xs h = counts xs (let short = front_length xs all h in omega (arith, short, room))
 
-      -- the longer of two fronts
-      pub record Longer (xs ys : List ℕ) : Type 0 where
-        pub front : List ℕ
-        pub is_front : IsFront front all
-        pub behind : IsFront xs front
-        pub since : IsFront ys front
-        pub kept : either (newest f) (kept_of xs) (kept_of ys) ≡ kept_of front
+    -- equal records are those of one front
+    pub one_front : (xs ys : List ℕ) → IsFront xs all → IsFront ys all → kept_of xs ≡ kept_of ys → xs ≡ ys
+    one_front xs ys h g same = one_length xs ys all h g (sym (counts_front xs h) ∙ ap (packets_in f) same ∙ counts_front ys g)
 
-      -- the newer of two records is that of the longer front
-      pub longer : (xs ys : List ℕ) → IsFront xs all → IsFront ys all → Longer xs ys
-      longer xs ys h g = by_length (nat_le (length xs) (length ys)) refl
-        where
-          a : packets_in f (kept_of xs) ≡ length xs
-          a = counts_front xs h
+    -- the longer of two fronts
+    pub record Longer (xs ys : List ℕ) : Type 0 where
+      pub front : List ℕ
+      pub is_front : IsFront front all
+      pub behind : IsFront xs front
+      pub since : IsFront ys front
+      pub kept : either (newest f) (kept_of xs) (kept_of ys) ≡ kept_of front
 
-          b : packets_in f (kept_of ys) ≡ length ys
-          b = counts_front ys g
+    -- the newer of two records is that of the longer front
+    pub longer : (xs ys : List ℕ) → IsFront xs all → IsFront ys all → Longer xs ys
+    longer xs ys h g = by_length (nat_le (length xs) (length ys)) refl
+      where
+        a : packets_in f (kept_of xs) ≡ length xs
+        a = counts_front xs h
 
-          by_length : (t : Bool) → nat_le (length xs) (length ys) ≡ t → Longer xs ys
-          by_length true on =
-              let short : length xs ≤ length ys = grind (arith, nat_tests, on) in
-              record {
-                front = ys;
-                is_front = g;
-                behind = shorter xs ys all h g short;
-                since = front_same ys;
-                kept = coming_newest (kept_of xs) (kept_of ys) (omega (arith, a, b, short)) (λ same. ap kept_of (one_length xs ys all h g (sym a ∙ same ∙ b)));
-              }
-          by_length false off =
-              let long : length ys < length xs = grind (arith, nat_tests, off) in
-              record {
-                front = xs;
-                is_front = h;
-                behind = front_same xs;
-                since = shorter ys xs all g h (omega (arith, long));
-                kept = held_newest (kept_of xs) (kept_of ys) (omega (arith, a, b, long));
-              }
+        b : packets_in f (kept_of ys) ≡ length ys
+        b = counts_front ys g
+
+        by_length : (t : Bool) → nat_le (length xs) (length ys) ≡ t → Longer xs ys
+        by_length true on =
+            let short : length xs ≤ length ys = grind (arith, nat_tests, on) in
+            record {
+              front = ys;
+              is_front = g;
+              behind = shorter xs ys all h g short;
+              since = front_same ys;
+              kept = coming_newest f (kept_of xs) (kept_of ys) (omega (arith, a, b, short)) (λ same. ap kept_of (one_length xs ys all h g (sym a ∙ same ∙ b)));
+            }
+        by_length false off =
+            let long : length ys < length xs = grind (arith, nat_tests, off) in
+            record {
+              front = xs;
+              is_front = h;
+              behind = front_same xs;
+              since = shorter ys xs all g h (omega (arith, long));
+              kept = held_newest f (kept_of xs) (kept_of ys) (omega (arith, a, b, long));
+            }

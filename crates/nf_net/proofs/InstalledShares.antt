@@ -1,19 +1,18 @@
 -- What the log of every run says of shares: the home of the share that has a unit owns it for good; and a share that the switch installs has begun,
 -- and isn't answered before, if its home owns a unit that it takes.
 use Rattle.nf_net.proofs.Words.{◌≡◌, ℕ, zero, suc, ◌+◌, ◌≤◌, true, false, Option, Some, None, List, [], ◌∷◌, ◌++◌, length, append-nil, refl, sym, ap, ◌∙◌}
-use Rattle.nf_net.proofs.Words.{subst, arith, option_or, Global, Filter, FunctionLaws, Semantics, takes, Msg, Note, instance_node, switch_step, Share}
-use Rattle.nf_net.proofs.Words.{controller_step, Choice, Network, IsRun, run, queue_at, behind_nil, where_two, OfShare, new_head, Any, S_install, moves_of}
-use Rattle.nf_net.proofs.Words.{seeing, no_change, WhereAll, Apart_from_shares, Under_share, Config, Node, is_begun, has_answered, times_installed, IsInput}
-use Rattle.nf_net.proofs.Words.{order_numbered, installs_in, node_step, node_ready, first_owner, owner_after_order, owner_after, is_home, shared_among}
-use Rattle.nf_net.proofs.Words.{members_after, owner, members, installed-append, is_whole, unit_fits, takes_whole, takes_same, is_sys, real_share, Given, place}
-use Rattle.nf_net.proofs.Words.{owner_next, S, A, Joined, came_by, Scene, IsTaken, node_of, scene, Wants, node_leads, AllApart, installed_same, installed_quiet}
-use Rattle.nf_net.proofs.Words.{installed_none, Stands, In_first, In_second, stands, instance_quiet, controller_uninstalled, Runs, given, all_fit, Unit, Order}
-use Rattle.nf_net.proofs.Words.{nowhere}
+use Rattle.nf_net.proofs.Words.{subst, arith, option_or, Filter, Semantics, takes, Msg, Note, instance_node, switch_step, Share, controller_step, Choice}
+use Rattle.nf_net.proofs.Words.{Network, queue_at, behind_nil, where_two, OfShare, new_head, Any, S_install, moves_of, seeing, no_change, WhereAll}
+use Rattle.nf_net.proofs.Words.{Apart_from_shares, Under_share, Config, Node, is_begun, has_answered, times_installed, order_numbered, installs_in, node_step}
+use Rattle.nf_net.proofs.Words.{first_owner, owner_after_order, owner_after, is_home, shared_among, members_after, owner, members, installed-append, is_whole}
+use Rattle.nf_net.proofs.Words.{unit_fits, takes_whole, takes_same, is_sys, real_share, Given, place, owner_next, S, A, Joined, came_by, Scene, IsTaken}
+use Rattle.nf_net.proofs.Words.{node_of, scene, Wants, node_leads, AllApart, installed_same, installed_quiet, installed_none, Stands, In_first, In_second}
+use Rattle.nf_net.proofs.Words.{stands, instance_quiet, controller_uninstalled, Runs, given, all_fit, Unit, Order, nowhere, Setting, start, IsCourse, world_of}
 use Rattle.actor_net.proofs.EnabledChoices.{at as at_node}
 use Rattle.proof_machines.proofs.unit.Real as real
 use Rattle.proof_machines.proofs.net.Net as net
 use Rattle.proof_machines.proofs.net.Shares.{Old}
-use Rattle.nf_net.proofs.RunWords.{Busy, open_began, run_busy, Installs, run_installs, start, count, log_keeps}
+use Rattle.nf_net.proofs.RunWords.{Busy, open_began, run_busy, Installs, run_installs, count, log_keeps}
 use Rattle.nf_net.proofs.MemberLemmas.{SharesIt, shares_it, members-append}
 use Rattle.nf_net.proofs.RuleSteps.{Changed, No_rule, Moves_on, Diverts, changed}
 use Rattle.nf_net.proofs.UnitShares.{members_go, set_up_installed}
@@ -86,11 +85,13 @@ module _ {R : Type 0} (f : Semantics R) (c : Config) (items : List Msg) where
         by_place (In_first cs here) = h.installs first cs op ms filter here what
         by_place (In_second cs from there) = by_alone cs from (alone (Note.Installed k) (Note.Installed op) cs rest there)
 
-module _ {F R : Type 0} (f : Semantics R) (c : Config) (items : List Msg) (is : IsInput f.kind c items) (n : ℕ) (count_is : n ≡ length c.names + 2)
-    (w : Network (Node F R) Msg Note) (j : Joined f (given f c items is) n w) (apart : AllApart j.nodes.controller.operations)
-    (b : Busy (given f c items is) w) (i : Installs (given f c items is) w) (h : SaysOfShares f c items w.log) where
+module _ {F R : Type 0} (setting : Setting F R) (n : ℕ) (count_is : n ≡ length setting.config.names + 2) (w : Network (Node F R) Msg Note)
+    (j : Joined setting.function (given setting) n w) (apart : AllApart j.nodes.controller.operations) (b : Busy (given setting) w)
+    (i : Installs (given setting) w) (h : SaysOfShares setting.function setting.config setting.items w.log) where
+  open setting use {function as f, config as c, items}
+
   abbrev g : Given
-  g = given f c items is
+  g = given setting
 
   -- the members of a unit after a change more
   members_next : (u : Unit) (k : ℕ) → members c items u (w.log ++ Note.Installed k ∷ [])
@@ -109,7 +110,7 @@ module _ {F R : Type 0} (f : Semantics R) (c : Config) (items : List Msg) (is : 
       by_where : WhereAll (S f g) (A f g) (is_sys f g.site g.packet) u j.world (came_by f g w.log u) → takes_whole f.kind filter u ≡ false
       by_where (Apart_from_shares q none) =
           let two = where_two (S f g) (is_sys f g.site g.packet) u (moves_of (S f g) (A f g) j.world) _ _ q.is in
-          let one = members_go f c items is n w j u fits ms e in
+          let one = members_go setting n w j u fits ms e in
           absurd (omega (arith, two, one))
       by_where (Under_share x before d q o m) = no_change (S f g) (A f g) (seeing (S f g) (A f g) u x) j.world before _ q k from dst filter rest waits
 
@@ -160,7 +161,7 @@ module _ {F R : Type 0} (f : Semantics R) (c : Config) (items : List Msg) (is : 
       homes = λ u fits ms e. home_by k u fits ms e (λ old at. unmoved u) (λ s. unmoved u);
       installs = installs_more f c items w.log k h (λ ms flt what. record {
         begun = begun;
-        set_up = λ u fits on home answered. set_up_installed f c items is n count_is w j apart b u fits i k ms flt what on home answered begun;
+        set_up = λ u fits on home answered. set_up_installed setting n count_is w j apart b u fits i k ms flt what on home answered begun;
       });
     })
       where
@@ -174,20 +175,20 @@ module _ {F R : Type 0} (f : Semantics R) (c : Config) (items : List Msg) (is : 
             let s = real_share f (place g) g.site j.world.ops j.world.shares j.nodes.controller k of.share j.shown_is.controller.opens of.found in
             open_began f g n count_is w j b k (Share s.s) s.there
 
-module _ (F : Type 0) {R : Type 0} (f : Semantics R) (laws : FunctionLaws f) (alloc : Global) (c : Config) (items : List Msg)
-    (is : IsInput f.kind c items) where
-  abbrev first : Network (Node F R) Msg Note
-  first = start F f laws alloc c items is
+module _ {F R : Type 0} (setting : Setting F R) where
+  open setting use {function as f, laws, config as c, items}
 
-  module _ (w : Network (Node F R) Msg Note) (r : Runs F f laws alloc c items is w) (b : Busy (given f c items is) w) (i : Installs (given f c items is) w)
+  abbrev first : Network (Node F R) Msg Note
+  first = start setting
+
+  module _ (w : Network (Node F R) Msg Note) (r : Runs setting w) (b : Busy (given setting) w) (i : Installs (given setting) w)
       (h : SaysOfShares f c items w.log) where
-    step_says : (k p : ℕ) (m : Msg) → IsTaken f (given f c items is) (length c.names + 2)
-        (scene f (given f c items is) (length c.names + 2) refl (Wants f (given f c items is))
-        (node_leads f laws (given f c items is) (all_fit f c items is) (length c.names + 2)) w r.joined)
-        (record { node = k; port = p; message = m })
+    step_says : (k p : ℕ) (m : Msg) → IsTaken f (given setting) (length c.names + 2)
+        (scene f (given setting) (length c.names + 2) refl (Wants f (given setting))
+        (node_leads f laws (given setting) (all_fit setting) (length c.names + 2)) w r.joined) (record { node = k; port = p; message = m })
         → SaysOfShares f c items (w.log ++ (node_step f (node_of r.joined.nodes k) p m).notes)
-    step_says zero p m it = says_after f c items is (length c.names + 2) refl w r.joined r.beside.kept.apart b i h p m it
-        (changed f (given f c items is) (length c.names + 2) _ r.joined.shown_is p m it)
+    step_says zero p m it = says_after setting (length c.names + 2) refl w r.joined r.beside.kept.apart b i h p m it
+        (changed f (given setting) (length c.names + 2) _ r.joined.shown_is p m it)
     step_says (suc zero) p m it = quiet_says f c items w.log (controller_step r.joined.nodes.controller p m).notes
         (installed_none _ (controller_uninstalled r.joined.nodes.controller p m)) h
     step_says (suc (suc y)) p m it = quiet_says f c items w.log (node_step f (node_of r.joined.nodes (suc (suc y))) p m).notes
@@ -199,6 +200,6 @@ module _ (F : Type 0) {R : Type 0} (f : Semantics R) (laws : FunctionLaws f) (al
     installs = λ before rest op ms filter e what. absurd (nowhere before rest (Note.Installed op) e);
   }
 
-  pub says_of_shares : (cs : List Choice) → IsRun node_ready (node_step f) cs first → SaysOfShares f c items (run (node_step f) cs first).log
-  says_of_shares = log_keeps F f laws alloc c items is (SaysOfShares f c items) says_at_start (λ ds ok d s h. step_says (run (node_step f) ds first) s.runs
-      (run_busy F f laws alloc c items is ds ok).1 (run_installs F f laws alloc c items is ds ok) h d.node d.port s.taking.message s.taken)
+  pub says_of_shares : (cs : List Choice) → IsCourse setting cs → SaysOfShares f c items (world_of setting cs).log
+  says_of_shares = log_keeps setting (SaysOfShares f c items) says_at_start (λ ds ok d s h. step_says (world_of setting ds) s.runs
+      (run_busy setting ds ok).1 (run_installs setting ds ok) h d.node d.port s.taking.message s.taken)

@@ -1,9 +1,9 @@
 -- What each node's step keeps of what is known of moves: their pieces, what was sent once for them, and their answers.
 use Rattle.nf_net.proofs.Words.{◌≡◌, ◌≢◌, ℕ, suc, ◌+◌, ◌<◌, ◌≤◌, Bool, true, false, Some, List, [], ◌∷◌, ◌++◌, length, get_or, refl, sym, ap, ◌∙◌, subst, arith}
-use Rattle.nf_net.proofs.Words.{if◌then◌else◌, slice_index, slice_index_or, Global, Semantics, Answer, Piece, Msg, Note, MoveState, Move, ControllerState}
+use Rattle.nf_net.proofs.Words.{if◌then◌else◌, slice_index, slice_index_or, Semantics, Answer, Piece, Msg, Note, MoveState, Move, ControllerState}
 use Rattle.nf_net.proofs.Words.{InstanceState, Choice, Network, Stepped, run, world_next, queue_at, at, Takes, Outcome, taken_outcome, OnLinks, EachSent}
-use Rattle.nf_net.proofs.Words.{on_links_after, total, total_after, sent_weight, Each, Config, Node, Controller, is_begun, answers_of, IsInput, node_step}
-use Rattle.nf_net.proofs.Words.{started_with, answers_of-append, Given, Label, given, Instance}
+use Rattle.nf_net.proofs.Words.{on_links_after, total, total_after, sent_weight, Each, Node, Controller, is_begun, answers_of, node_step}
+use Rattle.nf_net.proofs.Words.{answers_of-append, Given, Label, given, Instance, Setting, start}
 use Rattle.std.specs.FinMap as finite
 use Rattle.nf_net.proofs.RunWords.{AreOther, none_answered, other_not_answered, other_not_begun, began_same, Said, Knows, sends_nothing}
 use Rattle.nf_net.proofs.JudgedTables.{used}
@@ -46,9 +46,8 @@ module _ {R : Type 0} (f : Semantics R) (g : Given) (op : ℕ) where
   no_stream_to p k (Msg.Put j piece false) few label = refl
   no_stream_to p k m few label = refl
 
-module _ (F : Type 0) {R : Type 0} (f : Semantics R) (alloc : Global) (c : Config) (items : List Msg) (is : IsInput f.kind c items) where
-  abbrev pub start : Network (Node F R) Msg Note
-  start = started_with alloc c items
+module _ {F R : Type 0} (setting : Setting F R) where
+  open setting use {function as f, config as c, items}
 
   abbrev pub nodes : ℕ
   nodes = length c.names + 2
@@ -57,13 +56,13 @@ module _ (F : Type 0) {R : Type 0} (f : Semantics R) (alloc : Global) (c : Confi
   step = node_step f
 
   abbrev pub Part : List Note → ℕ → Piece → Type 0
-  Part log = IsPart f c items start log
+  Part log = IsPart f c items (start setting) log
 
   abbrev pub Verdict : List Choice → ℕ → Answer → Type 0
-  Verdict cs = HasVerdict f c items start cs
+  Verdict cs = HasVerdict f c items (start setting) cs
 
   abbrev pub Goes : ℕ → ℕ → Type 0
-  Goes = IsGoing f c items start
+  Goes = IsGoing f c items (start setting)
 
   -- what is known of a message after these choices, by this log
   module _ (cs : List Choice) (log : List Note) where
@@ -72,7 +71,7 @@ module _ (F : Type 0) {R : Type 0} (f : Semantics R) (alloc : Global) (c : Confi
 
   -- how often a command's state was given, or its first piece was taken
   abbrev pub happened : Bool → List Choice → List Note → ℕ → ℕ
-  happened true cs log op = times_taken f op cs start
+  happened true cs log op = times_taken f op cs (start setting)
   happened false cs log op = times_given op log
 
   -- an instance has the limit and the mark of its number
@@ -86,13 +85,13 @@ module _ (F : Type 0) {R : Type 0} (f : Semantics R) (alloc : Global) (c : Confi
     pub controller_is : (d : Node F R) → get_or w.nodes 1 d ≡ Controller controller
     pub knows : (op : ℕ) (m : MoveState) → finite.get controller.operations op ≡ Some (Move m) → Knows (Part log) (Verdict cs) Goes op m.phase
     pub says : OnLinks (SaidBy cs log) w
-    pub found : (op : ℕ) (a : Answer) → answers_of op log ≡ a ∷ [] → IsFound f c items start cs log op a
+    pub found : (op : ℕ) (a : Answer) → answers_of op log ≡ a ∷ [] → IsFound f c items (start setting) cs log op a
     pub once : (op : ℕ) (first : Bool) → total (once first op) w + happened first cs log op ≤ used (finite.get controller.operations op) (is_begun op log) first
     pub fixed : (i : ℕ) → i < length c.names → (s : InstanceState F R) → ((d : Node F R) → get_or w.nodes (suc (suc i)) d ≡ Instance s) → IsFixed i s
 
   -- A choice after these.
-  module _ (cs : List Choice) (w : Network (Node F R) Msg Note) (reached : w ≡ run step cs start) (h : Judging cs w w.log) (k p : ℕ) (node : Node F R)
-      (m : Msg) (rest : List Msg) (takes : Takes step nodes w k p node m rest) where
+  module _ (cs : List Choice) (w : Network (Node F R) Msg Note) (reached : w ≡ run step cs (start setting)) (h : Judging cs w w.log) (k p : ℕ)
+      (node : Node F R) (m : Msg) (rest : List Msg) (takes : Takes step nodes w k p node m rest) where
     abbrev pub did : Stepped (Node F R) Msg Note
     did = step node p m
 
@@ -113,10 +112,10 @@ module _ (F : Type 0) {R : Type 0} (f : Semantics R) (alloc : Global) (c : Confi
         (h.says p k (let n = takes.count in rw n takes.sender) (let n = takes.count in rw n takes.receiver))).0
 
     pub part : (op : ℕ) (piece : Piece) → Part w.log op piece → Part log op piece
-    part op piece x = part_kept f c items start w.log did.notes op piece x
+    part op piece x = part_kept f c items (start setting) w.log did.notes op piece x
 
     pub judged : (op : ℕ) (a : Answer) → Verdict cs op a → Verdict later op a
-    judged op a x = verdict_kept f c items start cs (at k p) op a x
+    judged op a x = verdict_kept f c items (start setting) cs (at k p) op a x
 
     -- it is known after the choice as well
     pub said_later : SaidBy later log p k m
@@ -128,16 +127,16 @@ module _ (F : Type 0) {R : Type 0} (f : Semantics R) (alloc : Global) (c : Confi
       pub controller_is : (d : Node F R) → get_or v.nodes 1 d ≡ Controller controller
       pub knows : (op : ℕ) (x : MoveState) → finite.get controller.operations op ≡ Some (Move x) → Knows (Part log) (Verdict later) Goes op x.phase
       pub says : EachSent (SaidBy later log) k did.sends
-      pub found : (op : ℕ) (a : Answer) → answers_of op did.notes ≡ a ∷ [] → IsFound f c items start later log op a
+      pub found : (op : ℕ) (a : Answer) → answers_of op did.notes ≡ a ∷ [] → IsFound f c items (start setting) later log op a
       pub spends : (op : ℕ) (first : Bool) → sent_weight (once first op) nodes k did.sends
           + used (finite.get h.controller.operations op) (is_begun op w.log) first ≤ used (finite.get controller.operations op) (is_begun op log) first
       pub given : (op : ℕ) → times_given op did.notes ≡ counts m false op
       pub fixed : (i : ℕ) → i < length c.names → (s : InstanceState F R) → ((d : Node F R) → get_or v.nodes (suc (suc i)) d ≡ Instance s) → IsFixed i s
 
-    taken_now : (op : ℕ) → times_taken f op later start ≡ times_taken f op cs start + counts m true op
+    taken_now : (op : ℕ) → times_taken f op later (start setting) ≡ times_taken f op cs (start setting) + counts m true op
     taken_now op =
-        let both = times_taken-append f op cs (at k p ∷ []) start in
-        let here : (if is_first_piece op (queue_at (run step cs start) (at k p)) then 1 else 0) ≡ counts m true op =
+        let both = times_taken-append f op cs (at k p ∷ []) (start setting) in
+        let here : (if is_first_piece op (queue_at (run step cs (start setting)) (at k p)) then 1 else 0) ≡ counts m true op =
         ap (λ u. if is_first_piece op (queue_at u (at k p)) then 1 else 0) (sym reached) ∙ ap (λ ms. if is_first_piece op ms then 1 else 0) takes.waits
         ∙ first_counts op m rest in
         omega (arith, both, here)
@@ -164,8 +163,8 @@ module _ (F : Type 0) {R : Type 0} (f : Semantics R) (alloc : Global) (c : Confi
       fixed = l.fixed;
     })
       where
-        by_one : (op : ℕ) (a : Answer) → OneOf (answers_of op w.log) (answers_of op did.notes) a → IsFound f c items start later log op a
-        by_one op a (In_first x) = found_kept f c items start cs (at k p) w.log did.notes op a (h.found op a x)
+        by_one : (op : ℕ) (a : Answer) → OneOf (answers_of op w.log) (answers_of op did.notes) a → IsFound f c items (start setting) later log op a
+        by_one op a (In_first x) = found_kept f c items (start setting) cs (at k p) w.log did.notes op a (h.found op a x)
         by_one op a (In_second x) = l.found op a x
 
     -- an instance that didn't take the message keeps its limit and its mark
@@ -174,14 +173,14 @@ module _ (F : Type 0) {R : Type 0} (f : Semantics R) (alloc : Global) (c : Confi
     fixed_other i off small s e = h.fixed i small s (λ d. sym (left.others (suc (suc i)) d off) ∙ e d)
 
     -- a node that isn't the controller
-    module _ (off : 1 ≢ k) (other : AreOther did.notes) (labels : EachSent (Label f (given f c items is)) k did.sends) where
-      no_answer : (op : ℕ) (a : Answer) → answers_of op did.notes ≡ a ∷ [] → IsFound f c items start later log op a
+    module _ (off : 1 ≢ k) (other : AreOther did.notes) (labels : EachSent (Label f (given setting)) k did.sends) where
+      no_answer : (op : ℕ) (a : Answer) → answers_of op did.notes ≡ a ∷ [] → IsFound f c items (start setting) later log op a
       no_answer op a e = let none = none_answered op did.notes (other_not_answered op did.notes other) in let never = sym none ∙ e in cc
 
       spends_other : (op : ℕ) (first : Bool) → sent_weight (once first op) nodes k did.sends
           + used (finite.get h.controller.operations op) (is_begun op w.log) first ≤ used (finite.get h.controller.operations op) (is_begun op log) first
       spends_other op first =
-          let none = none_once f (given f c items is) op first nodes k did.sends (λ e. off (sym e)) labels in
+          let none = none_once f (given setting) op first nodes k did.sends (λ e. off (sym e)) labels in
           let same = ap (λ b. used (finite.get h.controller.operations op) b first) (began_same op w.log did.notes (other_not_begun op did.notes other)) in
           omega (arith, none, same)
 

@@ -1,12 +1,11 @@
 -- Each node's step keeps what is known of moves, in a world of a run.
 use Rattle.nf_net.proofs.Words.{◌≡◌, ℕ, zero, suc, ◌+◌, ◌<◌, ◌≤◌, true, false, Some, None, List, [], ◌∷◌, ◌++◌, length, get_or, append-nil, refl, sym, ap, ◌∙◌}
-use Rattle.nf_net.proofs.Words.{subst, arith, if◌then◌else◌, ◌==◌, slice_get, slice_index, slice_index_or, list_any, Global, nat_tests, Decides-eqb}
-use Rattle.nf_net.proofs.Words.{slice_get-get_or, Filter, Chunk, FunctionLaws, Semantics, version_number, Answer, Piece, Msg, Note, units_in, instance_node}
-use Rattle.nf_net.proofs.Words.{MoveState, destination, CopyState, ShareState, Move, Copy, Share, controller_step, switch_step, InstanceState, piece_refusal}
-use Rattle.nf_net.proofs.Words.{selected_chunks, instance_step, pieces, whole_of, Choice, Network, IsRun, run, world_next, at, Takes, taken_outcome, EachSent}
-use Rattle.nf_net.proofs.Words.{total_after, sent_weight, Each, Config, Node, is_begun, has_answered, IsInput, node_step, node_ready, processed_of, live_in}
-use Rattle.nf_net.proofs.Words.{before_export, is_timed, exported_for, live_number, receiver_of, Given, Label, Joined, node_of, is_whole, given, all_fit, Unit}
-use Rattle.nf_net.proofs.Words.{Instance, Runs, split}
+use Rattle.nf_net.proofs.Words.{subst, arith, if◌then◌else◌, ◌==◌, slice_get, slice_index, slice_index_or, list_any, nat_tests, Decides-eqb, slice_get-get_or}
+use Rattle.nf_net.proofs.Words.{Filter, Chunk, version_number, Answer, Piece, Msg, Note, units_in, instance_node, MoveState, destination, CopyState, ShareState}
+use Rattle.nf_net.proofs.Words.{Move, Copy, Share, controller_step, switch_step, InstanceState, piece_refusal, selected_chunks, instance_step, pieces, whole_of}
+use Rattle.nf_net.proofs.Words.{Choice, Network, IsRun, run, world_next, at, Takes, taken_outcome, EachSent, total_after, sent_weight, Each, Node, is_begun}
+use Rattle.nf_net.proofs.Words.{has_answered, node_step, node_ready, processed_of, live_in, before_export, is_timed, exported_for, live_number, receiver_of}
+use Rattle.nf_net.proofs.Words.{Given, Label, Joined, node_of, is_whole, given, all_fit, Unit, Instance, Runs, split, Setting, start, world_of}
 use Rattle.std.specs.FinMap as finite
 use Rattle.nf_function.specs.Units as filters
 use Rattle.copy_share.specs.Copy as copy
@@ -26,36 +25,37 @@ use Rattle.nf_net.proofs.answers.LinePicks.{at_controller as way_at_controller}
 use Rattle.nf_net.proofs.VerdictLemmas.{none_exported, exported_new, before_export_new, before_own}
 use Rattle.nf_net.proofs.JudgedNodes.{switch_given, own_given, switch_says, same_instance, stream_notes}
 
-module _ (F : Type 0) {R : Type 0} (f : Semantics R) (laws : FunctionLaws f) (alloc : Global) (c : Config) (items : List Msg) (is : IsInput f.kind c items)
-    (cs : List Choice) (run_is : IsRun node_ready (node_step f) cs (steps.start F f alloc c items is))
-    (r : Runs F f laws alloc c items is (run (node_step f) cs (steps.start F f alloc c items is))) where
+module _ {F R : Type 0} (setting : Setting F R) (cs : List Choice) (run_is : IsRun node_ready (node_step setting.function) cs (start setting))
+    (r : Runs setting (run (node_step setting.function) cs (start setting))) where
+  open setting use {function as f, laws, config as c, items}
+
   abbrev g : Given
-  g = given f c items is
+  g = given setting
 
   abbrev n : ℕ
   n = length c.names + 2
 
   abbrev w : Network (Node F R) Msg Note
-  w = run (node_step f) cs (steps.start F f alloc c items is)
+  w = world_of setting cs
 
   abbrev j : Joined f g n w
   j = r.joined
 
   abbrev b : Busy g w
-  b = (run_busy F f laws alloc c items is cs run_is).1
+  b = (run_busy setting cs run_is).1
 
   abbrev Part : List Note → ℕ → Piece → Type 0
-  Part = steps.Part F f alloc c items is
+  Part = steps.Part setting
 
   abbrev Verdict : List Choice → ℕ → Answer → Type 0
-  Verdict = steps.Verdict F f alloc c items is
+  Verdict = steps.Verdict setting
 
   abbrev Goes : ℕ → ℕ → Type 0
-  Goes = steps.Goes F f alloc c items is
+  Goes = steps.Goes setting
 
-  module _ (h : Judging F f alloc c items is cs w w.log) (p : ℕ) (rest : List Msg) where
+  module _ (h : Judging setting cs w w.log) (p : ℕ) (rest : List Msg) where
     abbrev Leads : (k : ℕ) (m : Msg) → Takes (node_step f) n w k p (node_of j.nodes k) m rest → Type 0
-    Leads k m takes = Leaves F f alloc c items is cs w refl h k p (node_of j.nodes k) m rest takes
+    Leads k m takes = Leaves setting cs w refl h k p (node_of j.nodes k) m rest takes
 
     abbrev AreLabelled : ℕ → Msg → Type 0
     AreLabelled k m = EachSent (Label f g) k (node_step f (node_of j.nodes k) p m).sends
@@ -63,11 +63,11 @@ module _ (F : Type 0) {R : Type 0} (f : Semantics R) (laws : FunctionLaws f) (al
     at_switch : (m : Msg) (takes : Takes (node_step f) n w 0 p (node_of j.nodes 0) m rest) → Label f g p 0 m → AreLabelled 0 m → Leads 0 m takes
     at_switch m takes labelled labels =
         let s = j.nodes.switch in
-        steps.leaves_other F f alloc c items is cs w refl h 0 p (node_of j.nodes 0) m rest takes (λ never. cc) (switch_hands f g s p m labelled).notes_are
+        steps.leaves_other setting cs w refl h 0 p (node_of j.nodes 0) m rest takes (λ never. cc) (switch_hands f g s p m labelled).notes_are
         labels
         (switch_says f g (Part (w.log ++ (switch_step s m).notes)) (Verdict (cs ++ at 0 p ∷ [])) Goes (switch_step s m).sends labels)
         (λ op. switch_given op s m ∙ sym (no_stream_to f g op p 0 m (omega arith) labelled))
-        (λ i small x e. steps.fixed_other F f alloc c items is cs w refl h 0 p (node_of j.nodes 0) m rest takes i (λ never. absurd (omega (arith, never))) small
+        (λ i small x e. steps.fixed_other setting cs w refl h 0 p (node_of j.nodes 0) m rest takes i (λ never. absurd (omega (arith, never))) small
         x e)
 
     -- The controller.
@@ -87,7 +87,7 @@ module _ (F : Type 0) {R : Type 0} (f : Semantics R) (laws : FunctionLaws f) (al
     new_of m takes labelled = tt
 
     abbrev Still : ℕ → Type 0
-    Still = IsStill f c items (steps.start F f alloc c items is)
+    Still = IsStill f c items (start setting)
 
     copies : (op : ℕ) (x : CopyState) → finite.get j.nodes.controller.operations op ≡ Some (Copy x) → (copy.answer_of x.phase ≡ None) × Still op
     copies op x there =
@@ -100,7 +100,7 @@ module _ (F : Type 0) {R : Type 0} (f : Semantics R) (laws : FunctionLaws f) (al
         (it.op_is, ap is_moving (ap g.orders (sym it.op_is) ∙ it.plan.order_is))
 
     due_found : (later : List Choice) (log : List Note) (op : ℕ) (a : Answer) → is_begun op log ≡ true
-        → IsDue (Part log) (Verdict later) Goes Still w.log n j.nodes.controller op a → IsFound f c items (steps.start F f alloc c items is) later log op a
+        → IsDue (Part log) (Verdict later) Goes Still w.log n j.nodes.controller op a → IsFound f c items (start setting) later log op a
     due_found later log op a on (By_verdict v) = Was_judged on v
     due_found later log op a on (By_still still done) = Was_still on still done
 
@@ -110,26 +110,26 @@ module _ (F : Type 0) {R : Type 0} (f : Semantics R) (laws : FunctionLaws f) (al
         let log = w.log ++ (controller_step s p m).notes in
         let later = cs ++ at 1 p ∷ [] in
         let same : h.controller ≡ s = own_controller j takes.receiver h.controller h.controller_is in
-        let part = steps.part F f alloc c items is cs w refl h 1 p (node_of j.nodes 1) m rest takes in
-        let judged = steps.judged F f alloc c items is cs w refl h 1 p (node_of j.nodes 1) m rest takes in
+        let part = steps.part setting cs w refl h 1 p (node_of j.nodes 1) m rest takes in
+        let judged = steps.judged setting cs w refl h 1 p (node_of j.nodes 1) m rest takes in
         let known : (op : ℕ) (x : MoveState) → finite.get s.operations op ≡ Some (Move x) → Knows (Part log) (Verdict later) Goes op x.phase = λ op x there.
         knows_kept (Part w.log) (Part log) (Verdict cs) (Verdict later) Goes part judged op x.phase
         (h.knows op x (ap (λ y. finite.get y.operations op) same ∙ there)) in
         let did = controller_judges (Part log) (Verdict later) Goes Still w.log n s known moves copies shares (open_began f g n refl w j b) p m
-        (steps.said_later F f alloc c items is cs w refl h 1 p (node_of j.nodes 1) m rest takes) (new_of m takes labelled) in
+        (steps.said_later setting cs w refl h 1 p (node_of j.nodes 1) m rest takes) (new_of m takes labelled) in
         record {
           controller = (controller_step s p m).node;
           controller_is = (taken_outcome (node_step f) n w 1 p (node_of j.nodes 1) m rest takes).own;
           knows = did.knows;
           says = did.says;
-          found = λ op a e. split (is_begun op w.log) (λ _. IsFound f c items (steps.start F f alloc c items is) later log op a)
-              (λ on. due_found later log op a (began_kept f c items (steps.start F f alloc c items is) op w.log (controller_step s p m).notes on)
+          found = λ op a e. split (is_begun op w.log) (λ _. IsFound f c items (start setting) later log op a)
+              (λ on. due_found later log op a (began_kept f c items (start setting) op w.log (controller_step s p m).notes on)
               ((did.found op a e).known on)) (λ off. Was_refused ((did.found op a e).refused off));
           spends = λ op first.
               subst (λ y. sent_weight (once first op) n 1 (controller_step s p m).sends + used (finite.get y.operations op) (is_begun op w.log) first
               ≤ used (finite.get (controller_step s p m).node.operations op) (is_begun op log) first) (sym same) (did.once op first);
           given = λ op. own_given op (controller_step s p m).notes did.own ∙ sym (no_stream_to f g op p 1 m (omega arith) labelled);
-          fixed = λ i small x e. steps.fixed_other F f alloc c items is cs w refl h 1 p (node_of j.nodes 1) m rest takes i
+          fixed = λ i small x e. steps.fixed_other setting cs w refl h 1 p (node_of j.nodes 1) m rest takes i
               (λ never. absurd (omega (arith, never))) small x e;
         }
 
@@ -143,7 +143,7 @@ module _ (F : Type 0) {R : Type 0} (f : Semantics R) (laws : FunctionLaws f) (al
 
       module _ (small : k < n) where
         counted : length w.nodes ≡ n
-        counted = (after_world F f laws alloc c items is cs run_is).1
+        counted = (after_world setting cs run_is).1
 
         there : slice_get w.nodes (instance_node y) ≡ Some (Instance i)
         there =
@@ -151,14 +151,15 @@ module _ (F : Type 0) {R : Type 0} (f : Semantics R) (laws : FunctionLaws f) (al
             subst (λ z. slice_get w.nodes z ≡ Some (Instance i)) (sym number)
             (slice_get-get_or w.nodes k (Instance i) (rw counted small) ∙ ap Some (j.nodes_are k small (Instance i)))
 
-        fixed_here : IsFixed F f alloc c items is y i
+        fixed_here : IsFixed setting y i
         fixed_here = h.fixed y (omega (arith, small)) i (λ d. j.nodes_are k small d)
 
         -- whether a live record of a unit that is asked for has a time
         timed_is : (op : ℕ) (filter : Filter) → Takes (node_step f) n w k p (Instance i) (Msg.Stream op filter) rest → is_whole f.kind filter ≡ true
             → (u : Unit) (r : R) → filters.takes filter u ≡ true → finite.get i.table.live u ≡ Some r → f.is_timed r ≡ is_timed f c items u w.log
-        timed_is op filter takes whole u r on got = record_timed f laws c items (all_fit f c items is) (processed_of f c items u w.log) r (streamed_record f c
-            items is n w j counted k p (omega arith) small takes.sender op filter rest takes.waits whole u y r on got (ap (live_in u) there ∙ got))
+        timed_is op filter takes whole u r on got = record_timed f laws c items (all_fit setting) (processed_of f c items u w.log) r
+            (streamed_record setting n w j counted k p (omega arith) small takes.sender op filter rest takes.waits whole u y r on got
+            (ap (live_in u) there ∙ got))
 
         part_of : (op : ℕ) (chunks : List Chunk) (log : List Note) → exported_for op log ≡ Some (units_in chunks) → before_export op log ≡ w.log
             → GivesState f laws (λ u. is_timed f c items u w.log) chunks → (ps : List Piece) → Each (IsOf (whole_of chunks)) ps → Each (Part log op) ps
@@ -226,9 +227,8 @@ module _ (F : Type 0) {R : Type 0} (f : Semantics R) (laws : FunctionLaws f) (al
             answer_is = answer_is i piece timed part.newest;
           }
 
-      ready_for : (m : Msg) (takes : Takes (node_step f) n w k p (Instance i) m rest) → AreLabelled k m → Label f g p k m
-          → steps.SaidBy F f alloc c items is cs w.log p
-          k m → steps.SaidBy F f alloc c items is (cs ++ at k p ∷ []) (w.log ++ (instance_step f i m).notes) p k m
+      ready_for : (m : Msg) (takes : Takes (node_step f) n w k p (Instance i) m rest) → AreLabelled k m → Label f g p k m → steps.SaidBy setting cs w.log p
+          k m → steps.SaidBy setting (cs ++ at k p ∷ []) (w.log ++ (instance_step f i m).notes) p k m
           → IsReady (Part (w.log ++ (instance_step f i m).notes)) (Verdict (cs ++ at k p ∷ [])) Goes k f i m
       ready_for (Msg.Stream op filter) takes labels labelled said later =
           streamed takes.receiver op filter takes labelled.1 (none_before op filter takes labels)
@@ -240,14 +240,12 @@ module _ (F : Type 0) {R : Type 0} (f : Semantics R) (laws : FunctionLaws f) (al
       at_instance m takes labelled labels =
           let log = w.log ++ (instance_step f i m).notes in
           let later = cs ++ at k p ∷ [] in
-          let does = instance_does (Part log) (Verdict later) Goes k f i m (ready_for m takes labels labelled (steps.said F f alloc c items is cs w refl h k p
-          (Instance i) m rest takes) (steps.said_later F f alloc c items is cs w refl h k p (Instance i) m rest takes)) in
+          let does = instance_does (Part log) (Verdict later) Goes k f i m (ready_for m takes labels labelled (steps.said setting cs w refl h k p
+          (Instance i) m rest takes) (steps.said_later setting cs w refl h k p (Instance i) m rest takes)) in
           let left = taken_outcome (node_step f) n w k p (Instance i) m rest takes in
           let fixed = fixed_here takes.receiver in
-          steps.leaves_other F f alloc c items is cs w refl h k p (Instance i) m rest takes (λ never. absurd (omega (arith, never)))
-          (instance_says f g k i m).notes_are labels does.says does.given
-          (λ z small x e. split (z == y) (λ _. IsFixed F f alloc c items is z x)
-          (λ on.
+          steps.leaves_other setting cs w refl h k p (Instance i) m rest takes (λ never. absurd (omega (arith, never)))
+          (instance_says f g k i m).notes_are labels does.says does.given (λ z small x e. split (z == y) (λ _. IsFixed setting z x) (λ on.
           let same : z ≡ y = (Decides-eqb z y).0 on in
           let own : (instance_step f i m).node ≡ x = same_instance (instance_step f i m).node x (sym (left.own (Instance x))
           ∙ subst (λ q. get_or (world_next (node_step f) w (at k p)).nodes (suc (suc q)) (Instance x) ≡ Instance x) same (e (Instance x))) in
@@ -255,15 +253,15 @@ module _ (F : Type 0) {R : Type 0} (f : Semantics R) (laws : FunctionLaws f) (al
             limit = ap (λ q. q.limit) (sym own) ∙ does.limit ∙ fixed.limit ∙ ap (λ q. slice_index c.limits q) (sym same);
             marked = ap (λ q. q.marked) (sym own) ∙ does.marked ∙ fixed.marked ∙ ap (λ q. slice_index_or c.marked q false) (sym same);
           })
-          (λ off. steps.fixed_other F f alloc c items is cs w refl h k p (Instance i) m rest takes z
+          (λ off. steps.fixed_other setting cs w refl h k p (Instance i) m rest takes z
           (λ e'. (let bad : z ≡ y = omega (arith, e') in let never : true ≡ false = sym ((Decides-eqb z y).1 bad) ∙ off in cc)) small x e))
 
     -- a choice that is taken
     pub judging_next : (k : ℕ) (m : Msg) (takes : Takes (node_step f) n w k p (node_of j.nodes k) m rest) → Label f g p k m → AreLabelled k m
-        → Judging F f alloc c items is (cs ++ at k p ∷ []) (world_next (node_step f) w (at k p)) (world_next (node_step f) w (at k p)).log
+        → Judging setting (cs ++ at k p ∷ []) (world_next (node_step f) w (at k p)) (world_next (node_step f) w (at k p)).log
     judging_next zero m takes labelled labels =
-        steps.leaves F f alloc c items is cs w refl h 0 p (node_of j.nodes 0) m rest takes (at_switch m takes labelled labels)
+        steps.leaves setting cs w refl h 0 p (node_of j.nodes 0) m rest takes (at_switch m takes labelled labels)
     judging_next (suc zero) m takes labelled labels =
-        steps.leaves F f alloc c items is cs w refl h 1 p (node_of j.nodes 1) m rest takes (at_controller m takes labelled)
+        steps.leaves setting cs w refl h 1 p (node_of j.nodes 1) m rest takes (at_controller m takes labelled)
     judging_next (suc (suc y)) m takes labelled labels =
-        steps.leaves F f alloc c items is cs w refl h (suc (suc y)) p (node_of j.nodes (suc (suc y))) m rest takes (at_instance y m takes labelled labels)
+        steps.leaves setting cs w refl h (suc (suc y)) p (node_of j.nodes (suc (suc y))) m rest takes (at_instance y m takes labelled labels)

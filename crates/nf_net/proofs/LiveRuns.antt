@@ -1,11 +1,11 @@
 -- At every point of a run the units that the history says are live at an instance are those with a live record there, each once.
 use Rattle.nf_net.proofs.Words.{◌≡◌, ◌≢◌, ℕ, zero, suc, ◌<◌, true, false, Option, Some, None, List, [], ◌∷◌, ◌++◌, length, refl, sym, ap, ◌∙◌, subst, arith}
-use Rattle.nf_net.proofs.Words.{if◌then◌else◌, ◌&&◌, ◌||◌, ◌==◌, not, is_some, slice_get, flat_map, Global, nat_tests, Decides-eqb, slice_get-get_or, Chunk}
-use Rattle.nf_net.proofs.Words.{FunctionLaws, Semantics, is_among, same_unit_equiv, Msg, Note, instance_node, InstanceState, instance_step, Choice, Network}
-use Rattle.nf_net.proofs.Words.{IsRun, run, world_next, queue_at, at, run_more, Takes, Outcome, taken_outcome, Config, Node, Switch, Controller, processed_of}
-use Rattle.nf_net.proofs.Words.{IsInput, order_numbered, with_units, without_units, gained_by, is_first_of, is_shared_away, node_step, node_ready}
+use Rattle.nf_net.proofs.Words.{if◌then◌else◌, ◌&&◌, ◌||◌, ◌==◌, not, is_some, slice_get, flat_map, nat_tests, Decides-eqb, slice_get-get_or, Chunk}
+use Rattle.nf_net.proofs.Words.{is_among, same_unit_equiv, Msg, Note, instance_node, InstanceState, instance_step, Choice, Network}
+use Rattle.nf_net.proofs.Words.{run, world_next, queue_at, at, run_more, Takes, Outcome, taken_outcome, Node, Switch, Controller, processed_of}
+use Rattle.nf_net.proofs.Words.{order_numbered, with_units, without_units, gained_by, is_first_of, is_shared_away, node_step}
 use Rattle.nf_net.proofs.Words.{unit_numbered, live_in, live_at, removed_by, live_number, Given, node_of, IsTaken, scene, Wants, node_leads, instance_quiet}
-use Rattle.nf_net.proofs.Words.{Runs, run_beside, given, all_fit, count_at_start, Unit, Order, Instance, split, ◌+◌}
+use Rattle.nf_net.proofs.Words.{Runs, run_beside, given, all_fit, count_at_start, Unit, Order, Instance, split, ◌+◌, Setting, start, IsCourse, world_of}
 use Rattle.std.specs.Prelude.{drop}
 use Rattle.std.specs.FinMap as finite
 use Rattle.std.proofs.Math.Seq.{drop-append_seam}
@@ -14,7 +14,7 @@ use Rattle.net_world.specs.Fold.{fold}
 use Rattle.net_world.specs.Lives.{lost_by, lives, lives_next, lives_from}
 use Rattle.net_world.specs.Verdicts.{number_live}
 use Rattle.proof_outlines.proofs.joined.CopyTokens.{token_open}
-use Rattle.nf_net.proofs.RunWords.{run_busy, units_fit, start, count, RunStep, run_keeps, after_world}
+use Rattle.nf_net.proofs.RunWords.{run_busy, units_fit, count, RunStep, run_keeps, after_world}
 use Rattle.nf_net.proofs.LiveRows.{Free, Lives}
 use Rattle.nf_net.proofs.LiveShares.{nothing_live}
 use Rattle.nf_net.proofs.LiveSteps.{away_quiet, step_lives}
@@ -34,13 +34,14 @@ other_node i y off = grind (arith, nat_tests, off)
 no_instance : (k i : ℕ) → k < 2 → (k == instance_node i) ≡ false
 no_instance k i low = grind (arith, nat_tests, low)
 
-module _ (F : Type 0) {R : Type 0} (f : Semantics R) (laws : FunctionLaws f) (alloc : Global) (c : Config) (items : List Msg)
-    (is : IsInput f.kind c items) where
+module _ {F R : Type 0} (setting : Setting F R) where
+  open setting use {function as f, laws, config as c, items}
+
   abbrev g : Given
-  g = given f c items is
+  g = given setting
 
   abbrev first : Network (Node F R) Msg Note
-  first = start F f laws alloc c items is
+  first = start setting
 
   abbrev by : ℕ → List Choice → List Unit
   by i cs = lives f c items first i cs
@@ -57,22 +58,20 @@ module _ (F : Type 0) {R : Type 0} (f : Semantics R) (laws : FunctionLaws f) (al
   lives_more i (x ∷ cs) d w us = lives_more i cs d (world_next (node_step f) w x) (lives_next f c items i w x us)
 
   -- where a share has a packet's unit elsewhere, it isn't live
-  away_nothing : (cs : List Choice) → IsRun node_ready (node_step f) cs first → (y k : ℕ)
-      → is_shared_away c items (unit_numbered c items f.kind k) y (run (node_step f) cs first).log ≡ true
-      → live_at (run (node_step f) cs first) y (unit_numbered c items f.kind k) ≡ None
+  away_nothing : (cs : List Choice) → IsCourse setting cs → (y k : ℕ)
+      → is_shared_away c items (unit_numbered c items f.kind k) y (world_of setting cs).log ≡ true
+      → live_at (world_of setting cs) y (unit_numbered c items f.kind k) ≡ None
   away_nothing cs runs y k away =
-      let r : Runs F f laws alloc c items is (run (node_step f) cs first) = run_beside F f laws alloc c items is cs runs in
-      nothing_live f c items is (length c.names + 2) refl (run (node_step f) cs first) r.joined r.beside.kept.apart
-      (run_busy F f laws alloc c items is cs runs).1
-      (unit_numbered c items f.kind k) (units_fit f c items is k) (owners_stay F f laws alloc c items is cs runs)
-      (after_world F f laws alloc c items is cs runs).1 y away
+      let r : Runs setting (world_of setting cs) = run_beside setting cs runs in
+      nothing_live setting (length c.names + 2) refl (world_of setting cs) r.joined r.beside.kept.apart
+      (run_busy setting cs runs).1 (unit_numbered c items f.kind k) (units_fit setting k) (owners_stay setting cs runs) (after_world setting cs runs).1 y away
 
   -- nothing is live at the start
   none_live : (i : ℕ) (u : Unit) → live_at first i u ≡ None
   none_live i u =
-      let r : Runs F f laws alloc c items is first = run_beside F f laws alloc c items is [] tt in
-      let h : IsOfFront f c items (processed_of f c items u []) (live_at first i u) = lives_front f c items is (length c.names + 2) first
-      (count_at_start F f alloc c items is)
+      let r : Runs setting first = run_beside setting [] tt in
+      let h : IsOfFront f c items (processed_of f c items u []) (live_at first i u) = lives_front setting (length c.names + 2) first
+      (count_at_start setting)
       r.joined i u in
       let none : h.front ≡ [] = none_before h.front h.is_front.rest h.is_front.whole in
       sym h.folds ∙ ap (fold f c items None) none
@@ -81,15 +80,15 @@ module _ (F : Type 0) {R : Type 0} (f : Semantics R) (laws : FunctionLaws f) (al
   start_lived = record { same = λ i u. sym (ap is_some (none_live i u)); once = λ i. tt }
 
   -- A choice of a run
-  module _ (cs : List Choice) (runs : IsRun node_ready (node_step f) cs first) (d : Choice) (more : IsRun node_ready (node_step f) (cs ++ d ∷ []) first)
-      (h : Lived cs (run (node_step f) cs first)) (s : RunStep F f laws alloc c items is (run (node_step f) cs first) d) where
+  module _ (cs : List Choice) (runs : IsCourse setting cs) (d : Choice) (more : IsCourse setting (cs ++ d ∷ []))
+      (h : Lived cs (world_of setting cs)) (s : RunStep setting (world_of setting cs) d) where
     abbrev w : Network (Node F R) Msg Note
-    w = run (node_step f) cs first
+    w = world_of setting cs
 
     abbrev v : Network (Node F R) Msg Note
     v = world_next (node_step f) w d
 
-    abbrev r : Runs F f laws alloc c items is w
+    abbrev r : Runs setting w
     r = s.runs
 
     next_is : (i : ℕ) → by i (cs ++ d ∷ []) ≡ lives_next f c items i w d (by i cs)
@@ -122,7 +121,7 @@ module _ (F : Type 0) {R : Type 0} (f : Semantics R) (laws : FunctionLaws f) (al
 
       module _ (y : ℕ) (takes : Takes (node_step f) (length c.names + 2) w (suc (suc y)) p (node_of r.joined.nodes (suc (suc y))) m rest)
           (t : IsTaken f g (length c.names + 2)
-          (scene f g (length c.names + 2) refl (Wants f g) (node_leads f laws g (all_fit f c items is) (length c.names + 2)) w r.joined)
+          (scene f g (length c.names + 2) refl (Wants f g) (node_leads f laws g (all_fit setting) (length c.names + 2)) w r.joined)
           (record { node = suc (suc y); port = p; message = m }))
           (d_is : d ≡ at (suc (suc y)) p) where
         abbrev own : InstanceState F R
@@ -159,12 +158,12 @@ module _ (F : Type 0) {R : Type 0} (f : Semantics R) (laws : FunctionLaws f) (al
         log_is = ap (λ x. x.log) v_is ∙ out.log
 
         -- what is live then of a packet's unit no share has elsewhere
-        free : Free f laws c items is y w.log own (r.joined.shown_is.instances (suc (suc y)) (omega arith) takes.receiver).rules.at did
+        free : Free setting y w.log own (r.joined.shown_is.instances (suc (suc y)) (omega arith) takes.receiver).rules.at did
         free k on = split (is_shared_away c items (unit_numbered c items f.kind k) y w.log) (λ b. b ≡ false)
             (λ away.
             let u = unit_numbered c items f.kind k in
-            let reached : v ≡ run (node_step f) (cs ++ d ∷ []) first = run_more (node_step f) cs d first w refl in
-            let still : is_shared_away c items u y (run (node_step f) (cs ++ d ∷ []) first).log ≡ true = ap (λ x. is_shared_away c items u y x.log)
+            let reached : v ≡ world_of setting (cs ++ d ∷ []) = run_more (node_step f) cs d first w refl in
+            let still : is_shared_away c items u y (world_of setting (cs ++ d ∷ [])).log ≡ true = ap (λ x. is_shared_away c items u y x.log)
             (sym reached) ∙ ap (is_shared_away c items u y) log_is ∙ away_quiet c items u y own.index w.log did.notes (instance_quiet f own m) ∙ away in
             let none : live_at v y u ≡ None = ap (λ x. live_at x y u) reached ∙ away_nothing (cs ++ d ∷ []) more y k still in
             let never : true ≡ false = sym on ∙ ap is_some (sym (now_live u) ∙ none) in
@@ -182,9 +181,9 @@ module _ (F : Type 0) {R : Type 0} (f : Semantics R) (laws : FunctionLaws f) (al
             ap (order_numbered items) (sym its.op_is) ∙ its.plan.order_is in
             ap (λ o. is_first_of c items o y) what
 
-        goes : Lives f laws c items is y w.log own (r.joined.shown_is.instances (suc (suc y)) (omega arith) takes.receiver).rules.at m did
-        goes = step_lives f laws c items is (length c.names + 2) refl w r.joined r.beside.kept.apart (run_busy F f laws alloc c items is cs runs).1
-            (homes_of F f laws alloc c items is cs runs r) (owners_stay F f laws alloc c items is cs runs) p y takes.receiver m t copied free
+        goes : Lives setting y w.log own (r.joined.shown_is.instances (suc (suc y)) (omega arith) takes.receiver).rules.at m did
+        goes = step_lives setting (length c.names + 2) refl w r.joined r.beside.kept.apart (run_busy setting cs runs).1
+            (homes_of setting cs runs r) (owners_stay setting cs runs) p y takes.receiver m t copied free
 
         own_same : Same y
         own_same u =
@@ -216,7 +215,7 @@ module _ (F : Type 0) {R : Type 0} (f : Semantics R) (laws : FunctionLaws f) (al
             other_same i other (λ u. ap (λ x. live_at x i u) v_is ∙ stays_at (suc (suc y)) takes i apart u))
 
       each_same : (k : ℕ) → Takes (node_step f) (length c.names + 2) w k p (node_of r.joined.nodes k) m rest → IsTaken f g (length c.names + 2)
-          (scene f g (length c.names + 2) refl (Wants f g) (node_leads f laws g (all_fit f c items is) (length c.names + 2)) w r.joined)
+          (scene f g (length c.names + 2) refl (Wants f g) (node_leads f laws g (all_fit setting) (length c.names + 2)) w r.joined)
           (record { node = k; port = p; message = m })
           → d ≡ at k p → (i : ℕ) → Same i
       each_same zero takes t d_is i = other_same i (ap (λ x. x.node == instance_node i) d_is ∙ no_instance 0 i (omega arith))
@@ -229,15 +228,15 @@ module _ (F : Type 0) {R : Type 0} (f : Semantics R) (laws : FunctionLaws f) (al
     lived_next = record { same = each_same d.port s.taking.message s.taking.rest d.node s.takes s.taken refl; once = once_next }
 
   -- every run keeps it
-  pub run_lived : (cs : List Choice) → IsRun node_ready (node_step f) cs first → Lived cs (run (node_step f) cs first)
-  run_lived cs run_is = run_keeps F f laws alloc c items is (λ ds w. IsRun node_ready (node_step f) ds first → Lived ds w) (λ _. start_lived)
+  pub run_lived : (cs : List Choice) → IsCourse setting cs → Lived cs (world_of setting cs)
+  run_lived cs run_is = run_keeps setting (λ ds w. IsCourse setting ds → Lived ds w) (λ _. start_lived)
       (λ ds ok d s h more. lived_next ds ok d more (h ok) s) cs run_is run_is
 
   -- and so they are as many as the records
-  pub lives_number : (cs : List Choice) → IsRun node_ready (node_step f) cs first → (i : ℕ) → length (by i cs) ≡ number_live (run (node_step f) cs first) i
-  lives_number cs run_is i = by_node (slice_get (run (node_step f) cs first).nodes (instance_node i)) refl
+  pub lives_number : (cs : List Choice) → IsCourse setting cs → (i : ℕ) → length (by i cs) ≡ number_live (world_of setting cs) i
+  lives_number cs run_is i = by_node (slice_get (world_of setting cs).nodes (instance_node i)) refl
     where
-      h : Lived cs (run (node_step f) cs first)
+      h : Lived cs (world_of setting cs)
       h = run_lived cs run_is
 
       none_here : (us : List Unit) → ((u : Unit) → is_among us u ≡ false) → length us ≡ 0
@@ -248,7 +247,7 @@ module _ (F : Type 0) {R : Type 0} (f : Semantics R) (laws : FunctionLaws f) (al
           let never : true ≡ false = sym self ∙ all u in
           cc
 
-      by_node : (o : Option (Node F R)) → slice_get (run (node_step f) cs first).nodes (instance_node i) ≡ o → length (by i cs) ≡ live_number o
+      by_node : (o : Option (Node F R)) → slice_get (world_of setting cs).nodes (instance_node i) ≡ o → length (by i cs) ≡ live_number o
       by_node None e = none_here (by i cs) (λ u. h.same i u ∙ ap is_some (ap (live_in u) e))
       by_node (Some (Switch s)) e = none_here (by i cs) (λ u. h.same i u ∙ ap is_some (ap (live_in u) e))
       by_node (Some (Controller s)) e = none_here (by i cs) (λ u. h.same i u ∙ ap is_some (ap (live_in u) e))

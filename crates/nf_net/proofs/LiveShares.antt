@@ -2,13 +2,12 @@
 -- records of a share, the log says the same of it.
 use Rattle.nf_net.proofs.Words.{◌≡◌, ℕ, ◌+◌, ◌<◌, Bool, true, false, Option, Some, None, List, [], ◌∷◌, length, refl, sym, ap, ◌∙◌, subst, arith, if◌then◌else◌}
 use Rattle.nf_net.proofs.Words.{◌&&◌, ◌||◌, ◌==◌, not, find, is_some, slice_get, slice_index, filter_map, list_any, option_map_or, nat_tests, Decides-eqb}
-use Rattle.nf_net.proofs.Words.{get_or_from_slice_get, slice_get_within, or_right, and_parts, Filter, Semantics, takes, same_unit, Order, Msg, Note}
-use Rattle.nf_net.proofs.Words.{instance_node, home, Share, place_of, Network, Chunks, where_two, OfShare, new_head, label_of, found_each, unit_share, Any, New}
-use Rattle.nf_net.proofs.Words.{Shared_on, S_sync, same, OpenShare, WantShare, find_share, moves_of, Under, seeing, ElsewhereHome, head_none, shape, ItsShare}
-use Rattle.nf_net.proofs.Words.{its_share, WhereAll, Apart_from_shares, Under_share, Config, Node, Switch, Controller, is_begun, IsInput, order_numbered}
-use Rattle.nf_net.proofs.Words.{before_begun, is_first_of, is_shared_away, has_begun, begins_in, is_at, is_home, owner, shared_among, live_in, live_at}
-use Rattle.nf_net.proofs.Words.{unit_fits, is_whole, takes_whole, is_sys, Both, RealShare, real_share, Given, place, S, A, Joined, came_by, AllApart, given}
-use Rattle.nf_net.proofs.Words.{Unit, Instance, split}
+use Rattle.nf_net.proofs.Words.{get_or_from_slice_get, slice_get_within, or_right, and_parts, Filter, takes, same_unit, Order, Msg, Note, instance_node, home}
+use Rattle.nf_net.proofs.Words.{Share, place_of, Network, Chunks, where_two, OfShare, new_head, label_of, found_each, unit_share, Any, New, Shared_on, S_sync}
+use Rattle.nf_net.proofs.Words.{same, OpenShare, WantShare, find_share, moves_of, Under, seeing, ElsewhereHome, head_none, shape, ItsShare, its_share, WhereAll}
+use Rattle.nf_net.proofs.Words.{Apart_from_shares, Under_share, Node, Switch, Controller, is_begun, order_numbered, before_begun, is_first_of, is_shared_away}
+use Rattle.nf_net.proofs.Words.{has_begun, begins_in, is_at, is_home, owner, shared_among, live_in, live_at, unit_fits, is_whole, takes_whole, is_sys, Both}
+use Rattle.nf_net.proofs.Words.{RealShare, real_share, Given, place, S, A, Joined, came_by, AllApart, given, Unit, Instance, split, Setting}
 use Rattle.std.specs.FinMap as finite
 use Rattle.std.proofs.lemmas.Bool.{not-true}
 use Rattle.proof_outlines.proofs.whole.SwitchAll.{same_node}
@@ -65,11 +64,12 @@ home_test names orders (name ∷ others) some known i = by_place (place_of names
         let first : filter_map (place_of names) (name ∷ others) ≡ k ∷ filter_map (place_of names) others = rw at refl in
         ap (λ v. i == slice_index v 0) (sym first)
 
-module _ {F R : Type 0} (f : Semantics R) (c : Config) (items : List Msg) (is : IsInput f.kind c items) (n : ℕ) (count_is : n ≡ length c.names + 2)
-    (w : Network (Node F R) Msg Note) (j : Joined f (given f c items is) n w) (apart : AllApart j.nodes.controller.operations)
-    (b : Busy (given f c items is) w) where
+module _ {F R : Type 0} (setting : Setting F R) (n : ℕ) (count_is : n ≡ length setting.config.names + 2) (w : Network (Node F R) Msg Note)
+    (j : Joined setting.function (given setting) n w) (apart : AllApart j.nodes.controller.operations) (b : Busy (given setting) w) where
+  open setting use {function as f, config as c, items}
+
   abbrev g : Given
-  g = given f c items is
+  g = given setting
 
   -- An open share, as its order says it.
   module _ (op : ℕ) (e : OpenShare) (found : find_share j.world.shares op ≡ Some e) where
@@ -107,14 +107,14 @@ module _ {F R : Type 0} (f : Semantics R) (c : Config) (items : List Msg) (is : 
     -- A share that began and whose first member owns the unit
     module _ (op : ℕ) (ms : List (List ℕ)) (filter : Filter) (what : order_numbered items op ≡ Some (Order.Share ms filter)) (takes_it : takes filter u
         ≡ true) (at_home : is_home c.names (order_numbered items) ms (owner c items u w.log) ≡ true) (begins_in : is_begun op w.log ≡ true) where
-      abbrev own : IsOpenShare f c items is n count_is w j apart b op ms filter
-      own = begun_open f c items is n count_is w j apart b op ms filter what begins_in
+      abbrev own : IsOpenShare setting n count_is w j apart b op ms filter
+      own = begun_open setting n count_is w j apart b op ms filter what begins_in
 
       abbrev seen : Both f (place g) g.site j.world.shares j.nodes.controller op own.state
-      seen = begun_seen f c items is n count_is w j apart b op ms filter what begins_in
+      seen = begun_seen setting n count_is w j apart b op ms filter what begins_in
 
       its_own : (S f g).takes seen.e.filter u ≡ true
-      its_own = begun_takes f c items is n count_is w j apart b op ms filter what begins_in u fits takes_it
+      its_own = begun_takes setting n count_is w j apart b op ms filter what begins_in u fits takes_it
 
       home_so : seen.e.home ≡ instance_node (owner c items u w.log)
       home_so =
@@ -126,14 +126,14 @@ module _ {F R : Type 0} (f : Semantics R) (c : Config) (items : List Msg) (is : 
       live_none y off (Apart_from_shares k none) =
           let two = where_two (S f g) (is_sys f g.site g.packet) u (moves_of (S f g) (A f g) j.world) _ _ k.is in
           let away = found_each (ElsewhereHome (S f g) u j.world.target) j.world.shares op seen.e k.untaken.homes seen.there its_own in
-          let same : seen.e.home ≡ j.world.target u = home_so ∙ sym (owner_goes f c items is n w j u fits two) in
+          let same : seen.e.home ≡ j.world.target u = home_so ∙ sym (owner_goes setting n w j u fits two) in
           let never : (seen.e.home == j.world.target u) ≡ true = (Decides-eqb seen.e.home (j.world.target u)).1 same in
           cc
       live_none y off (Under_share x before d k o m) =
           let here : OpenShare = its_share (S f g) (A f g) (is_sys f g.site g.packet) u j.world x before _ k in
           let its_here : ItsShare (S f g) (A f g) (is_sys f g.site g.packet) u j.world here =
           record { found = k.holds.share; takes = k.covered; home_in = k.is.home_in } in
-          let number : op ≡ here.num = number_is f c items is n count_is w j apart b u fits op ms filter own takes_it here its_here in
+          let number : op ≡ here.num = number_is setting n count_is w j apart b u fits op ms filter own takes_it here its_here in
           k.away (instance_node y) (sym (first_is_home here.num here its_here.found y)
           ∙ ap (λ q. is_first_of c items (order_numbered items q) y) (sym number) ∙ ap (λ o. is_first_of c items o y) what ∙ off)
 
@@ -175,7 +175,7 @@ module _ {F R : Type 0} (f : Semantics R) (c : Config) (items : List Msg) (is : 
             ∙ ap (λ x. finite.get x.live u) (j.shown_is.instances (instance_node y) (omega arith) few).outline_is ∙ away_none y away
 
     -- Under a share the log has it so at every instance but home
-    module _ (told : HomesOwn f c items is n count_is w j) (x : WantShare) (before since : List ℕ)
+    module _ (told : HomesOwn setting n count_is w j) (x : WantShare) (before since : List ℕ)
         (k : Under (S f g) (A f g) (seeing (S f g) (A f g) u x) j.world before since) where
       abbrev here : OpenShare
       here = its_share (S f g) (A f g) (is_sys f g.site g.packet) u j.world x before since k
@@ -210,7 +210,7 @@ module _ {F R : Type 0} (f : Semantics R) (c : Config) (items : List Msg) (is : 
           has_one (these y) w.log x.num (on x.num here k.holds.share) such
 
     -- a packet of the unit that comes marked as one of a share away from its home
-    pub away_marked : HomesOwn f c items is n count_is w j → (p y : ℕ) (op q : ℕ) (rest : List (Any R)) → (p == 0) && (instance_node y == 0) ≡ false
+    pub away_marked : HomesOwn setting n count_is w j → (p y : ℕ) (op q : ℕ) (rest : List (Any R)) → (p == 0) && (instance_node y == 0) ≡ false
         → j.world.link p (instance_node y) ≡ New (Shared_on op false q) ∷ rest → same_unit ((S f g).packet_unit q) u ≡ true
         → is_shared_away c items u y w.log ≡ true
     away_marked told p y op q rest off waits mine = by_where (j.shown_is.every.unit u)

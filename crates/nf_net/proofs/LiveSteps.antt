@@ -1,10 +1,10 @@
 -- In a step of a run an instance leaves live what the history says: what was and isn't removed, and what it gains by what it notes.
 use Rattle.nf_net.proofs.Words.{◌≡◌, ℕ, suc, ◌+◌, ◌<◌, Bool, true, false, List, [], ◌∷◌, ◌++◌, length, refl, ap, ◌∙◌, arith, ◌&&◌, ◌||◌, ◌==◌, not}
-use Rattle.nf_net.proofs.Words.{option_map_or, list_any, nat_tests, Chunk, FunctionLaws, Semantics, same_unit_equiv, FullCell, Msg, Note, instance_node}
-use Rattle.nf_net.proofs.Words.{InstanceState, instance_step, Network, queue_at, Each, New, Shared_on, S_sync, Config, Node, IsInput, order_numbered}
+use Rattle.nf_net.proofs.Words.{option_map_or, list_any, nat_tests, Chunk, same_unit_equiv, FullCell, Msg, Note, instance_node}
+use Rattle.nf_net.proofs.Words.{InstanceState, instance_step, Network, queue_at, Each, New, Shared_on, S_sync, Config, Node, order_numbered}
 use Rattle.nf_net.proofs.Words.{before_begun, is_first_of, is_shared_away, has_begun, installs_in, begins_in, first_owner, is_home, owner_after, shared_among}
 use Rattle.nf_net.proofs.Words.{unit_numbered, held_genuine, number, entries, Given, Rows, by_message, Genuine, IsInstanceAt, IsTaken, Joined, Scene, AllApart}
-use Rattle.nf_net.proofs.Words.{installed_quiet, IsQuiet, given, Unit, Mark}
+use Rattle.nf_net.proofs.Words.{installed_quiet, IsQuiet, given, Unit, Mark, Setting}
 use Rattle.actor_net.proofs.EnabledChoices.{at as at_node}
 use Rattle.nf_net.proofs.RunWords.{HomesOwn, Busy, units_fit}
 use Rattle.proof_outlines.proofs.joined.OwnerLemmas.{begun_quiet}
@@ -36,12 +36,13 @@ away_quiet c items u y k xs ys quiet =
     each : (op : ℕ) → covers_at (xs ++ ys) op ≡ covers_at xs op
     each op = ap (by_owner op) (installed_before op xs ys (installed_quiet k ys quiet))
 
-module _ {F R : Type 0} (f : Semantics R) (laws : FunctionLaws f) (c : Config) (items : List Msg) (is : IsInput f.kind c items)
-    (n : ℕ) (count_is : n ≡ length c.names + 2) (w : Network (Node F R) Msg Note) (j : Joined f (given f c items is) n w)
-    (apart : AllApart j.nodes.controller.operations) (b : Busy (given f c items is) w) (told : HomesOwn f c items is n count_is w j)
-    (kept : OwnersStay f c items w.log) (p y : ℕ) (few : suc (suc y) < n) where
+module _ {F R : Type 0} (setting : Setting F R) (n : ℕ) (count_is : n ≡ length setting.config.names + 2) (w : Network (Node F R) Msg Note)
+    (j : Joined setting.function (given setting) n w) (apart : AllApart j.nodes.controller.operations) (b : Busy (given setting) w)
+    (told : HomesOwn setting n count_is w j) (kept : OwnersStay setting.function setting.config setting.items w.log) (p y : ℕ) (few : suc (suc y) < n) where
+  open setting use {function as f, config as c, items}
+
   abbrev g : Given
-  g = given f c items is
+  g = given setting
 
   abbrev scene : Scene F f g
   scene = record { nodes = j.nodes; world = j.world; log = w.log; input = queue_at w (at_node 0 0) }
@@ -75,39 +76,38 @@ module _ {F R : Type 0} (f : Semantics R) (laws : FunctionLaws f) (c : Config) (
   OfCopy m = (op : ℕ) (chunks : List Chunk) → m ≡ Msg.Standby op chunks → is_first_of c items (order_numbered items op) y ≡ false
 
   abbrev Now : Msg → Type 0
-  Now m = IsTakenHere m → OfCopy m → Free f laws c items is y w.log i site (instance_step f i m)
-      → Lives f laws c items is y w.log i site m (instance_step f i m)
+  Now m = IsTakenHere m → OfCopy m → Free setting y w.log i site (instance_step f i m) → Lives setting y w.log i site m (instance_step f i m)
 
   shared_lives : (op : ℕ) (home : Bool) (cell : FullCell) → Genuine f g cell → Now (Msg.Carry (Mark.Shared op home) cell)
-  shared_lives op true cell e t copied free = carry_lives f laws c items is y w.log i site (Mark.Shared op true) cell e refl free
+  shared_lives op true cell e t copied free = carry_lives setting y w.log i site (Mark.Shared op true) cell e refl free
   shared_lives op false cell e t copied free =
       let u = unit_numbered c items f.kind (number cell) in
-      away_lives f laws c items is y w.log i site op cell
-      (away_marked f c items is n count_is w j apart b u (units_fit f c items is (number cell)) kept told p y op (number cell) t.rest no_input
+      away_lives setting y w.log i site op cell
+      (away_marked setting n count_is w j apart b u (units_fit setting (number cell)) kept told p y op (number cell) t.rest no_input
       (ap (j.world.link p) node_is ∙ t.head not_input (New (Shared_on op false (number cell))) refl) (same_unit_equiv.refl u))
 
   rows : Rows f g Now
   rows = record {
-    carry = λ cell e t copied free. carry_lives f laws c items is y w.log i site Mark.Plain cell e refl free;
-    pass = λ op cell e t copied free. carry_lives f laws c items is y w.log i site (Mark.Pass op) cell e refl free;
+    carry = λ cell e t copied free. carry_lives setting y w.log i site Mark.Plain cell e refl free;
+    pass = λ op cell e t copied free. carry_lives setting y w.log i site (Mark.Pass op) cell e refl free;
     shared = shared_lives;
-    fence = λ op t copied free. fence_lives f laws c items is y w.log i site op (held_genuine g.site g.packet op i.rules at.rules.held) free;
-    stop = λ t copied free. stays f laws c items is y w.log i site Msg.Stop (instance_step f i Msg.Stop) refl refl refl;
-    enable = λ op filter act whole ruled t copied free. stays f laws c items is y w.log i site (Msg.Enable op filter act)
+    fence = λ op t copied free. fence_lives setting y w.log i site op (held_genuine g.site g.packet op i.rules at.rules.held) free;
+    stop = λ t copied free. stays setting y w.log i site Msg.Stop (instance_step f i Msg.Stop) refl refl refl;
+    enable = λ op filter act whole ruled t copied free. stays setting y w.log i site (Msg.Enable op filter act)
         (instance_step f i (Msg.Enable op filter act)) refl refl refl;
-    stream = λ op filter whole t copied free. stream_lives f laws c items is y w.log i site op filter;
-    delete = λ op gone t copied free. delete_lives f laws c items is y w.log i site op gone;
-    put = λ op piece first good t copied free. put_lives f laws c items is y w.log i site op piece first good;
-    restore = λ op chunks good t copied free. restore_lives f laws c items is y w.log i site op chunks good;
-    get = λ op filter whole t copied free. get_lives f laws c items is y w.log i site op filter;
-    get_all = λ op t copied free. stays f laws c items is y w.log i site (Msg.GetAll op) (instance_step f i (Msg.GetAll op)) refl refl refl;
-    standby = λ op chunks good t copied free. standby_lives f laws c items is y w.log i site op chunks good (copied op chunks refl);
-    put_all = λ op chunk t copied free. put_all_lives f laws c items is y w.log i site op chunk;
-    sync = λ home op chunks good t copied free. sync_lives f laws c items is y w.log i site home op chunks good
-        (first_synced f c items is n count_is w j apart b p y op home (entries f chunks) t.rest no_input
+    stream = λ op filter whole t copied free. stream_lives setting y w.log i site op filter;
+    delete = λ op gone t copied free. delete_lives setting y w.log i site op gone;
+    put = λ op piece first good t copied free. put_lives setting y w.log i site op piece first good;
+    restore = λ op chunks good t copied free. restore_lives setting y w.log i site op chunks good;
+    get = λ op filter whole t copied free. get_lives setting y w.log i site op filter;
+    get_all = λ op t copied free. stays setting y w.log i site (Msg.GetAll op) (instance_step f i (Msg.GetAll op)) refl refl refl;
+    standby = λ op chunks good t copied free. standby_lives setting y w.log i site op chunks good (copied op chunks refl);
+    put_all = λ op chunk t copied free. put_all_lives setting y w.log i site op chunk;
+    sync = λ home op chunks good t copied free. sync_lives setting y w.log i site home op chunks good
+        (first_synced setting n count_is w j apart b p y op home (entries f chunks) t.rest no_input
         (ap (j.world.link p) node_is ∙ t.head not_input (New (S_sync op home (entries f chunks))) refl));
   }
 
-  pub step_lives : (m : Msg) → IsTakenHere m → OfCopy m → Free f laws c items is y w.log i site (instance_step f i m)
-      → Lives f laws c items is y w.log i site m (instance_step f i m)
+  pub step_lives : (m : Msg) → IsTakenHere m → OfCopy m → Free setting y w.log i site (instance_step f i m)
+      → Lives setting y w.log i site m (instance_step f i m)
   step_lives m t = by_message f g Now p y rows m t.label t

@@ -3,8 +3,8 @@
 use Rattle.nf_net.proofs.Words.{◌≡◌, ℕ, ◌<◌, ◌≤◌, Bool, true, false, cond, Option, Some, None, List, ◌∷◌, length, refl, sym, ap, ◌∙◌, subst, arith, ◌&&◌, ◌==◌}
 use Rattle.nf_net.proofs.Words.{is_some, filter_map, nat_tests, Filter, takes, FunctionLaws, Semantics, Records, taken_by, one_unit, Msg, Note, Network}
 use Rattle.nf_net.proofs.Words.{queue_at, at, Each, M_stream, Mv, Sys, IsSys, NothingOf, Where, Any, olds, Sharing, WholeWorld, moves_of, Came, WhereAll}
-use Rattle.nf_net.proofs.Words.{Apart_from_shares, Under_share, Config, Node, IsInput, processed_of, live_at, is_whole, takes_same, is_sys, Given, S, A, shown}
-use Rattle.nf_net.proofs.Words.{came_by, Joined, done_same, given, Unit}
+use Rattle.nf_net.proofs.Words.{Apart_from_shares, Under_share, Node, processed_of, live_at, is_whole, takes_same, is_sys, Given, S, A, shown}
+use Rattle.nf_net.proofs.Words.{came_by, Joined, done_same, given, Unit, Setting}
 use Rattle.std.specs.FinMap as finite
 use Rattle.record_table.specs.Chunks.{chunks_of}
 use Rattle.record_table.proofs.RecordLookUps.{same_records}
@@ -25,10 +25,11 @@ module _ {R : Type 0} (S : Sys R) (laws : IsSys S) (u : Unit) where
       cc
 
 -- So in a world of a run where a Stream is taken.
-module _ {F R : Type 0} (f : Semantics R) (c : Config) (items : List Msg) (is : IsInput f.kind c items) (n : ℕ) (w : Network (Node F R) Msg Note)
-    (j : Joined f (given f c items is) n w) where
+module _ {F R : Type 0} (setting : Setting F R) (n : ℕ) (w : Network (Node F R) Msg Note) (j : Joined setting.function (given setting) n w) where
+  open setting use {function as f, config as c, items}
+
   abbrev g : Given
-  g = given f c items is
+  g = given setting
 
   module _ (count : length w.nodes ≡ n) (k p : ℕ) (two : 2 ≤ k) (few : k < n) (sends : p < n) (op : ℕ) (filter : Filter) (rest : List Msg)
       (waits : queue_at w (at k p) ≡ Msg.Stream op filter ∷ rest) (whole : is_whole f.kind filter ≡ true) where
@@ -46,9 +47,8 @@ module _ {F R : Type 0} (f : Semantics R) (c : Config) (items : List Msg) (is : 
         let fits = its.records.fits u (ap is_some there) in
         let apart = stream_apart (S f g) (is_sys f g.site g.packet) u (A f g) j.world (came_by f g w.log u) (j.shown_is.every.unit u) p k op filter
         (filter_map (shown f g) rest) off shown_so (takes_same f.kind filter u whole fits ∙ on) in
-        fold_is f c items is None (processed_of f c items u w.log)
-        ∙ ap (λ ps. readings.fold (S f g).F None ps) (sym (done_same f c items is n w j u))
-        ∙ record_is f c items is n w count j u apart i r live
+        fold_is setting None (processed_of f c items u w.log)
+        ∙ ap (λ ps. readings.fold (S f g).F None ps) (sym (done_same setting n w j u)) ∙ record_is setting n w count j u apart i r live
 
 -- The records that a filter takes.
 module _ {R : Type 0} (filter : Filter) where

@@ -89,10 +89,11 @@ module _ {R : Type 0} (f : Semantics R) (g : Given) (z : Seeing) where
 
 -- In a world.
 module _ {F R : Type 0} (here : Reached F R) (u : Unit) (apart : IsApart here u) (k : Seated here u) where
-  open here use {f, c, items, is, n, w, nodes, j, world}
+  open here use {setting, n, w, nodes, j, world}
+  open setting use {function as f}
 
   abbrev g : Given
-  g = given f c items is
+  g = given setting
 
   abbrev z : Seeing
   z = see (S f g) (is_sys f g.site g.packet) u k.op k.third

@@ -1,7 +1,7 @@
 -- The unit of the packet with any number is one that packets may have; and what an instance notes as processed is among what ran.
 use Rattle.nf_net.proofs.Words.{◌≡◌, ℕ, Bool, true, false, Option, Some, None, List, [], ◌∷◌, ◌++◌, refl, ap, if◌then◌else◌, ◌&&◌, ◌==◌, not, find, unwrap_or}
-use Rattle.nf_net.proofs.Words.{cons_option, filter_map, Packet, Site, Flow, Output, Semantics, Msg, Note, Each, Config, packet_numbered, IsInput}
-use Rattle.nf_net.proofs.Words.{unit_numbered, flow_fits, unit_fits, all_each, ran_in, unit_is_fit, flow_of, split}
+use Rattle.nf_net.proofs.Words.{cons_option, filter_map, Packet, Site, Flow, Output, Note, Each, packet_numbered}
+use Rattle.nf_net.proofs.Words.{unit_numbered, flow_fits, unit_fits, all_each, ran_in, unit_is_fit, flow_of, split, Setting}
 use Rattle.flow_filter.specs.declared.flow.Direction.{Direction}
 use Rattle.flow_filter.specs.declared.flow.Direction.TheVariants.{Out, In}
 use Rattle.flow_filter.specs.Flow.{is_inside, outward, inward}
@@ -22,7 +22,9 @@ no_packet_fits : (site : Site) → flow_fits (flow_of site no_packet).0 ≡ true
 unfolding flow_of
 no_packet_fits site = zeros_fit site (is_inside site 0) (is_outside_address site.outside 0)
 
-module _ {R : Type 0} (f : Semantics R) (c : Config) (items : List Msg) (is : IsInput f.kind c items) where
+module _ {F R : Type 0} (setting : Setting F R) where
+  open setting use {function as f, config as c, items, is_input as is}
+
   flow_found : (k : ℕ) (ps : List Packet) → Each (IsSteered c.site) ps
       → flow_fits (flow_of c.site (unwrap_or (find (λ p. p.number == k) ps) no_packet)).0 ≡ true
   flow_found k [] h = no_packet_fits c.site

@@ -1,7 +1,7 @@
 -- At most as many packets are processed as came, where each is processed at most as often as it came; and as many, where it is as often.
 use Rattle.nf_net.proofs.Words.{◌≡◌, ℕ, suc, ◌+◌, ◌≤◌, Bool, true, List, [], ◌∷◌, map, length, refl, sym, ap, ◌∙◌, arith, if◌then◌else◌, ◌==◌, nat_tests}
-use Rattle.nf_net.proofs.Words.{Decides-eqb, length-map, Semantics, unit_at, same_unit_equiv, Msg, Note, Network, Config, Node, packet_numbered, IsInput}
-use Rattle.nf_net.proofs.Words.{arrivals_in, dones_in, done_where, is_of, arrived_of, processed_of, times_filter, given, Joined, Unit, split}
+use Rattle.nf_net.proofs.Words.{Decides-eqb, length-map, Semantics, unit_at, same_unit_equiv, Msg, Note, Network, Config, Node, packet_numbered}
+use Rattle.nf_net.proofs.Words.{arrivals_in, dones_in, done_where, is_of, arrived_of, processed_of, times_filter, given, Joined, Unit, split, Setting}
 use Rattle.net_world.specs.Log.{Done}
 use Rattle.net_world.specs.Fold.{times}
 use Rattle.net_world.proofs.NumberCounts.{done_numbers}
@@ -59,16 +59,18 @@ few_came f c items log each =
     let fewer = no_longer (arrivals_in log) (map (λ d. d.number) (dones_in log)) (λ p. let same = all_done f c items log each p in omega (arith, same)) in
     omega (arith, long, fewer)
 
-module _ {F R : Type 0} (f : Semantics R) (c : Config) (items : List Msg) (is : IsInput f.kind c items) where
+module _ {F R : Type 0} (setting : Setting F R) where
+  open setting use {function as f, config as c, items}
+
   -- of a world of a run
-  pub few_done : (n : ℕ) (w : Network (Node F R) Msg Note) → Joined f (given f c items is) n w → length (dones_in w.log) ≤ length (arrivals_in w.log)
+  pub few_done : (n : ℕ) (w : Network (Node F R) Msg Note) → Joined f (given setting) n w → length (dones_in w.log) ≤ length (arrivals_in w.log)
   few_done n w j =
       let numbers : List ℕ = map (λ d. d.number) (dones_in w.log) in
       let long : length numbers ≡ length (dones_in w.log) = length-map (dones_in w.log) (λ d. d.number) in
       let fewer = no_longer numbers (arrivals_in w.log) (λ p.
       let u : Unit = unit_at f.kind c.site (packet_numbered items p) in
       let own : is_of f c items u p ≡ true = same_unit_equiv.refl u in
-      let one : times p (processed_of f c items u w.log) ≤ times p (arrived_of f c items u w.log) = once f c items is n w j u p in
+      let one : times p (processed_of f c items u w.log) ≤ times p (arrived_of f c items u w.log) = once setting n w j u p in
       let all : times p (arrived_of f c items u w.log) ≡ times p (arrivals_in w.log) = times_filter (is_of f c items u) p own (arrivals_in w.log) in
       let ran : times p (processed_of f c items u w.log) ≡ times p numbers = done_times (is_of f c items u) p own (dones_in w.log) in
       omega (arith, one, all, ran)) in

@@ -1,11 +1,11 @@
 -- In a step of a run an instance processes packets at places of their units.
 use Rattle.nf_net.proofs.Words.{◌≡◌, ℕ, suc, ◌+◌, ◌⊎◌, inl, inr, true, Option, Some, None, List, [], ◌∷◌, ◌++◌, length, refl, sym, ap, ◌∙◌, subst, arith}
-use Rattle.nf_net.proofs.Words.{filter_map, nat_tests, Decides-eqb, and_parts, FunctionLaws, Semantics, takes, Output, same_unit_equiv, Msg, Note}
+use Rattle.nf_net.proofs.Words.{filter_map, nat_tests, Decides-eqb, and_parts, takes, Output, same_unit_equiv, Msg, Note}
 use Rattle.nf_net.proofs.Words.{instance_node, FullCell, stored_of, place_of, Operation, Move, Copy, Share, InstanceState, instance_step, Network, queue_at}
-use Rattle.nf_net.proofs.Words.{Each, Open, find_op, Any, New, OpenShare, moves_of, MayRun, ran_by, ItsShare, Config, Node, IsInput, job_of, is_at, owner}
+use Rattle.nf_net.proofs.Words.{Each, Open, find_op, Any, New, OpenShare, moves_of, MayRun, ran_by, ItsShare, Node, job_of, is_at, owner}
 use Rattle.nf_net.proofs.Words.{members, unit_numbered, IsMoving, IsPlace, Owns, Is_destination, Is_member, is_whole, unit_fits, takes_whole, ran_in, is_sys}
 use Rattle.nf_net.proofs.Words.{outline_instance, Sees, but_shares, is_sharing, Given, place, S, A, Scene, IsTaken, IsInstanceAt, Joined, came_by, AllApart}
-use Rattle.nf_net.proofs.Words.{each_there, IsQuiet, instance_quiet, RanAs, Seen, Unseen, ran_as, ran_any, given, all_fit, Unit}
+use Rattle.nf_net.proofs.Words.{each_there, IsQuiet, instance_quiet, RanAs, Seen, Unseen, ran_as, ran_any, given, all_fit, Unit, Setting}
 use Rattle.std.specs.FinMap as finite
 use Rattle.actor_net.proofs.EnabledChoices.{at as at_node}
 use Rattle.proof_machines.proofs.net.Shares.{Old}
@@ -18,10 +18,12 @@ use Rattle.nf_net.proofs.MembersServed.{ProcessesOne, By_move, By_home, By_membe
 use Rattle.nf_net.proofs.SharedHomes.{home_owns, member_goes}
 use Rattle.nf_net.proofs.UnitShares.{diverted_members, owner_goes}
 
-module _ {F R : Type 0} (f : Semantics R) (c : Config) (items : List Msg) (is : IsInput f.kind c items) (n : ℕ) (w : Network (Node F R) Msg Note)
-    (j : Joined f (given f c items is) n w) (busy : AreUnderWay f c items is n w j) where
+module _ {F R : Type 0} (setting : Setting F R) (n : ℕ) (w : Network (Node F R) Msg Note) (j : Joined setting.function (given setting) n w)
+    (busy : AreUnderWay setting n w j) where
+  open setting use {function as f, config as c, items}
+
   abbrev gm : Given
-  gm = given f c items is
+  gm = given setting
 
   module _ (u : Unit) where
     -- the open move with this number, of the unit, between two instances, as one that is under way
@@ -70,12 +72,13 @@ module _ {F R : Type 0} (f : Semantics R) (c : Config) (items : List Msg) (is : 
         (subst (λ q. Sees f (place gm) q (but_shares (finite.get j.nodes.controller.operations k)) (stored_of j.nodes.controller.store k)) there
         (j.shown_is.controller.opens k).move) taken
 
-module _ {F R : Type 0} (f : Semantics R) (laws : FunctionLaws f) (c : Config) (items : List Msg) (is : IsInput f.kind c items)
-    (n : ℕ) (count_is : n ≡ length c.names + 2) (w : Network (Node F R) Msg Note) (j : Joined f (given f c items is) n w)
-    (apart : AllApart j.nodes.controller.operations) (b : Busy (given f c items is) w) (h : Installs (given f c items is) w)
-    (busy : AreUnderWay f c items is n w j) (says : SaysOfShares f c items w.log) where
+module _ {F R : Type 0} (setting : Setting F R) (n : ℕ) (count_is : n ≡ length setting.config.names + 2) (w : Network (Node F R) Msg Note)
+    (j : Joined setting.function (given setting) n w) (apart : AllApart j.nodes.controller.operations) (b : Busy (given setting) w)
+    (h : Installs (given setting) w) (busy : AreUnderWay setting n w j) (says : SaysOfShares setting.function setting.config setting.items w.log) where
+  open setting use {function as f, laws, config as c, items}
+
   abbrev g : Given
-  g = given f c items is
+  g = given setting
 
   abbrev scene : Scene F f g
   scene = record { nodes = j.nodes; world = j.world; log = w.log; input = queue_at w (at_node 0 0) }
@@ -88,23 +91,23 @@ module _ {F R : Type 0} (f : Semantics R) (laws : FunctionLaws f) (c : Config) (
     unit = unit_numbered c items f.kind number
 
     fits : unit_fits f.kind unit ≡ true
-    fits = units_fit f c items is number
+    fits = units_fit setting number
 
     by_target : j.world.target unit ≡ instance_node i → IsPlace (job_of f c items) number w.log i
-    by_target at = Owns (node_same i (owner c items unit w.log) (j.world.target unit) (sym at) (owner_goes f c items is n w j unit fits (omega (arith, at))))
+    by_target at = Owns (node_same i (owner c items unit w.log) (j.world.target unit) (sym at) (owner_goes setting n w j unit fits (omega (arith, at))))
 
     -- the source of a move to which the unit's packets go owns it
     covers : (source : List ℕ) (from : ℕ) → place_of c.names source ≡ Some from → j.world.target unit ≡ instance_node from
         → is_at (place_of c.names source) (owner c items unit w.log) ≡ true
     covers source from from_is goes =
-        let owned : j.world.target unit ≡ instance_node (owner c items unit w.log) = owner_goes f c items is n w j unit fits (omega (arith, goes)) in
+        let owned : j.world.target unit ≡ instance_node (owner c items unit w.log) = owner_goes setting n w j unit fits (omega (arith, goes)) in
         let same : owner c items unit w.log ≡ from = node_same (owner c items unit w.log) from (j.world.target unit) (sym owned) goes in
         ap (λ o. is_at o (owner c items unit w.log)) from_is ∙ (Decides-eqb (owner c items unit w.log) from).1 same
 
     by_may : MayRun (S f g) (moves_of (S f g) (A f g) j.world) unit (instance_node i) → IsPlace (job_of f c items) number w.log i
     by_may (At_route at) = by_target at
     by_may (At_destination k e there taken goes at) =
-        let m = open_at f c items is n w j busy unit k e there taken in
+        let m = open_at setting n w j busy unit k e there taken in
         let covered : is_at (place_of c.names m.moving.source) (owner c items unit w.log) ≡ true = covers m.moving.source m.from m.from_is (goes ∙ m.src) in
         Is_destination (record { moving = m.moving; covers = covered }) (m.to_is ∙ ap Some (node_same m.to i e.op.dst (sym m.dst) (sym at)))
 
@@ -113,14 +116,14 @@ module _ {F R : Type 0} (f : Semantics R) (laws : FunctionLaws f) (c : Config) (
         → (instance_node i ≡ e.home) ⊎ (instance_node i ≡ (A f g).member e.members number) → IsThere (members c items unit w.log)
         → IsPlace (job_of f c items) number w.log i
     by_there e its (inl at) there =
-        Owns (node_same i (owner c items unit w.log) e.home at (home_owns f c items is n count_is w j apart b h says unit fits e its there))
-    by_there e its (inr at) there = Is_member (member_goes f c items is n count_is w j apart b h says unit fits e its number i refl (sym at) there)
+        Owns (node_same i (owner c items unit w.log) e.home at (home_owns setting n count_is w j apart b h says unit fits e its there))
+    by_there e its (inr at) there = Is_member (member_goes setting n count_is w j apart b h says unit fits e its number i refl (sym at) there)
 
     by_one : ProcessesOne (S f g) (A f g) (is_sys f g.site g.packet) unit j.world (instance_node i) number → IsPlace (job_of f c items) number w.log i
     by_one (By_move may) = by_may may
-    by_one (By_home e its (inl one) at) = by_there e its (inl at) (diverted_members f c items is n w j unit fits one)
+    by_one (By_home e its (inl one) at) = by_there e its (inl at) (diverted_members setting n w j unit fits one)
     by_one (By_home e its (inr home) at) = by_target (home ∙ sym at)
-    by_one (By_member e its one at) = by_there e its (inr at) (diverted_members f c items is n w j unit fits one)
+    by_one (By_member e its one at) = by_there e its (inr at) (diverted_members setting n w j unit fits one)
 
   -- what an instance processes, it processes at a place of the unit
   module _ (y p : ℕ) (m : Msg) (taken : IsTaken f g n scene (record { node = suc (suc y); port = p; message = m })) where
@@ -157,7 +160,7 @@ module _ {F R : Type 0} (f : Semantics R) (laws : FunctionLaws f) (c : Config) (
       follows (Old a) = ap (λ x. ran_any f g x own.table.standby (Old a)) at.outline_is
       follows (New a) = ap (λ x. ran_any f g x own.table.standby (New a)) at.outline_is ∙ ap (λ t. ran_any f g (j.world.inst k) t (New a)) at.standby_is
 
-      one : RanAs f laws g (all_fit f c items is) own m
+      one : RanAs f laws g (all_fit setting) own m
           → ProcessesOne (S f g) (A f g) (is_sys f g.site g.packet) (unit_numbered c items f.kind number) j.world k number
       one (Unseen none) = absurd (none_there there.front there.back (sym none ∙ there.whole))
       one (Seen a shown_as ran) = processes_one (S f g) (A f g) (is_sys f g.site g.packet) (unit_numbered c items f.kind number)
@@ -171,4 +174,4 @@ module _ {F R : Type 0} (f : Semantics R) (laws : FunctionLaws f) (c : Config) (
           place_quiet (job_of f c items) number own.index w.log front i
           (each_front (IsQuiet own.index) front (Note.Processed number i output ∷ back) (subst (λ ns. Each (IsQuiet own.index) ns) e quiet))
           (by_one number i (subst (λ q. ProcessesOne (S f g) (A f g) (is_sys f g.site g.packet) (unit_numbered c items f.kind number) j.world q number) node
-          (one (ran_as f laws g (all_fit f c items is) k own j.world (omega arith) at p y m taken.label))))
+          (one (ran_as f laws g (all_fit setting) k own j.world (omega arith) at p y m taken.label))))

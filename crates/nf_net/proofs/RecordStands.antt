@@ -1,12 +1,11 @@
 -- In every run the record of a unit is live at one instance, or in one chunk on its way, or in both as long as its source is still to
 -- remove it. Where a share has the unit, it is live at the home, and may lack the last packet as long as the home is to take a newer one.
 use Rattle.nf_net.proofs.Words.{◌≡◌, ◌≢◌, ℕ, ◌<◌, ◌≤◌, true, false, Option, Some, None, List, [], ◌∷◌, ◌++◌, map, refl, sym, ap, ◌∙◌, subst, arith}
-use Rattle.nf_net.proofs.Words.{if◌then◌else◌, ◌==◌, ◌-◌, ◌||◌, nat_lt, slice_get, option_to_list, flat_map, Global, ltb-false, or_right, nat_tests}
-use Rattle.nf_net.proofs.Words.{Decides-eqb, Decides-ltb, slice_get_past, FunctionLaws, Semantics, Msg, controller_node, instance_node, is_among, Choice, IsRun}
-use Rattle.nf_net.proofs.Words.{on_link, run, State, idle, nil_left, firsts, Kept, third_silent, seat_shape, seat_path, Seeing, node_at, side_place}
-use Rattle.nf_net.proofs.Words.{seat_parts, WantShare, WhereAll, Apart_from_shares, Under_share, Config, IsInput, job_of, arrivals_in, IsFront}
-use Rattle.nf_net.proofs.Words.{processed_of, owner, node_step, node_ready, started_with, live_in, live_at, given_in, removed_by, AllApart, is_sys, run_beside}
-use Rattle.nf_net.proofs.Words.{done_same, given, Given, S, A, came_by, Unit, split}
+use Rattle.nf_net.proofs.Words.{if◌then◌else◌, ◌==◌, ◌-◌, ◌||◌, nat_lt, slice_get, option_to_list, flat_map, ltb-false, or_right, nat_tests, Decides-eqb}
+use Rattle.nf_net.proofs.Words.{Decides-ltb, slice_get_past, controller_node, instance_node, is_among, Choice, on_link, State, idle, nil_left, firsts, Kept}
+use Rattle.nf_net.proofs.Words.{third_silent, seat_shape, seat_path, Seeing, node_at, side_place, seat_parts, WantShare, WhereAll, Apart_from_shares}
+use Rattle.nf_net.proofs.Words.{Under_share, job_of, arrivals_in, IsFront, processed_of, owner, live_in, live_at, given_in, removed_by, AllApart, is_sys}
+use Rattle.nf_net.proofs.Words.{run_beside, done_same, given, Given, S, A, came_by, Unit, split, Setting, IsCourse, world_of}
 use Rattle.std.specs.FinMap as finite
 use Rattle.proof_machines.proofs.unit.Machine.{after}
 use Rattle.proof_machines.proofs.unit.Lists.{map_nil}
@@ -58,12 +57,13 @@ never o r none some = let bad = sym none ∙ some in cc
 not_nil : {P R : Type 0} (xs : List R) (r : R) → xs ≡ [] → xs ≡ r ∷ [] → P
 not_nil xs r none one = let bad = sym none ∙ one in cc
 
-module _ {F R : Type 0} (here : Reached F R) (in_turn : IsFront (arrivals_in here.w.log) (map (λ p. p.number) (packets here.items))) (u : Unit)
+module _ {F R : Type 0} (here : Reached F R) (in_turn : IsFront (arrivals_in here.w.log) (map (λ p. p.number) (packets here.setting.items))) (u : Unit)
     (at : AsMoves here u) (apart : IsApart here u) where
-  open here use {f, c, items, is, n, count, w, nodes, j}
+  open here use {setting, n, count, w, nodes, j}
+  open setting use {function as f, config as c, items}
 
   abbrev g : Given
-  g = given f c items is
+  g = given setting
 
   abbrev k : Seated here u
   k = seated here u at
@@ -109,7 +109,7 @@ module _ {F R : Type 0} (here : Reached F R) (in_turn : IsFront (arrivals_in her
   live_one r m two few live =
       let at : instance_node (m - 2) ≡ m = omega (arith, two) in
       let there : live_at w (m - 2) u ≡ Some r = ap (λ y. live_in u (slice_get w.nodes y)) at ∙ live_there m two few ∙ live in
-      record { there = there; alone = λ i s h. one_place f c items is n w nodes j u i (m - 2) s r h there }
+      record { there = there; alone = λ i s h. one_place setting n w nodes j u i (m - 2) s r h there }
 
   at_source : (r : R) → k.op.src < n → x.a.live ≡ Some r → IsLiveAt w u (k.op.src - 2) r
   at_source r few live = let self = k.holds.apart.src in live_one r k.op.src k.holds.nodes.a_is few (rw self live)
@@ -188,8 +188,8 @@ module _ {F R : Type 0} (here : Reached F R) (in_turn : IsFront (arrivals_in her
   -- the machine's record is the fold of what was processed
   fold_same : after (S f g).F x.done ≡ fold f c items None (processed_of f c items u w.log)
   fold_same =
-      ap (readings.fold (S f g).F None) (sym k.holds.done ∙ done_same f c items is n w j u)
-      ∙ sym (fold_is f c items is None (processed_of f c items u w.log))
+      ap (readings.fold (S f g).F None) (sym k.holds.done ∙ done_same setting n w j u)
+      ∙ sym (fold_is setting None (processed_of f c items u w.log))
 
   apart_stands : HasOneRecord f w u (fold f c items None (processed_of f c items u w.log))
   apart_stands = by_kept (seat_kept (S f g).F k.seat)
@@ -208,23 +208,24 @@ module _ {F R : Type 0} (here : Reached F R) (in_turn : IsFront (arrivals_in her
       by_kept (Twice r some at_a live way) = by_sides r some way (λ src dst. records.Is_given (k.op.src - 2) r (sym fold_same ∙ some) (at_source r src at_a)
           (one_way r src dst way) (to_remove r src (still_to_remove (S f g).F k.seat r r [] at_a way))) k.ends
 
-module _ {F R : Type 0} (here : Reached F R) (in_turn : IsFront (arrivals_in here.w.log) (map (λ p. p.number) (packets here.items)))
-    (unmixed : AllApart here.j.nodes.controller.operations) (b : Busy (given here.f here.c here.items here.is) here.w)
-    (h : Installs (given here.f here.c here.items here.is) here.w) (says : SaysOfShares here.f here.c here.items here.w.log) (u : Unit) where
-  open here use {f, c, items, is, n, count, w, j}
+module _ {F R : Type 0} (here : Reached F R) (in_turn : IsFront (arrivals_in here.w.log) (map (λ p. p.number) (packets here.setting.items)))
+    (unmixed : AllApart here.j.nodes.controller.operations) (b : Busy (given here.setting) here.w)
+    (h : Installs (given here.setting) here.w) (says : SaysOfShares here.setting.function here.setting.config here.setting.items here.w.log) (u : Unit) where
+  open here use {setting, n, count, w, j}
+  open setting use {function as f, config as c, items}
 
   abbrev gr : Given
-  gr = given f c items is
+  gr = given setting
 
   -- by the log
-  told : HomesOwn f c items is n count w j
-  told = homes_own f c items is n count w j unmixed b h says
+  told : HomesOwn setting n count w j
+  told = homes_own setting n count w j unmixed b h says
 
   abbrev all : List ℕ
   all = processed_of f c items u w.log
 
   folded : (ps : List ℕ) → fold f c items None ps ≡ readings.fold (S f gr).F None ps
-  folded ps = fold_is f c items is None ps
+  folded ps = fold_is setting None ps
 
   -- Under a share.
   module _ (x : WantShare) (before since : List ℕ) (k : IsUnder here u x before since) where
@@ -256,7 +257,7 @@ module _ {F R : Type 0} (here : Reached F R) (in_turn : IsFront (arrivals_in her
         last = y.last;
         went_is = y.last_is;
         member = y.member;
-        member_is = goes_so f c items is n count w j unmixed b h says u x before since k y.diverts y.last y.its y.member y.member_is;
+        member_is = goes_so setting n count w j unmixed b h says u x before since k y.diverts y.last y.its y.member y.member_is;
         other = y.other;
         stands_by = y.stands_by ∙ sym (folded all);
         on_its_way = y.on_its_way;
@@ -274,9 +275,9 @@ module _ {F R : Type 0} (here : Reached F R) (in_turn : IsFront (arrivals_in her
           (has_shared here told u x before (came_by f gr w.log u).diverted h)
 
 -- Of every run.
-module _ (F : Type 0) {R : Type 0} (f : Semantics R) (laws : FunctionLaws f) (alloc : Global) (c : Config) (items : List Msg) (is : IsInput f.kind c items)
-    (cs : List Choice) (runs : IsRun node_ready (node_step f) cs (started_with {F = F} {R = R} alloc c items)) where
-  pub records_stand : (u : Unit) → HasRecord (job_of f c items) (run (node_step f) cs (started_with {F = F} {R = R} alloc c items)) u
-  records_stand = record_stands (reached F f laws alloc c items is cs runs) (arrivals_run F f laws alloc c items is cs runs)
-      (run_beside F f laws alloc c items is cs runs).beside.kept.apart (run_busy F f laws alloc c items is cs runs).1
-      (run_installs F f laws alloc c items is cs runs) (says_of_shares F f laws alloc c items is cs runs)
+module _ {F R : Type 0} (setting : Setting F R) (cs : List Choice) (runs : IsCourse setting cs) where
+  open setting use {function as f, config as c, items}
+
+  pub records_stand : (u : Unit) → HasRecord (job_of f c items) (world_of setting cs) u
+  records_stand = record_stands (reached setting cs runs) (arrivals_run setting cs runs)
+      (run_beside setting cs runs).beside.kept.apart (run_busy setting cs runs).1 (run_installs setting cs runs) (says_of_shares setting cs runs)

@@ -1,5 +1,5 @@
 -- The names that most proofs of what runs promise cite, passed on from one place. Declares nothing.
-pub use Rattle.nf_net.proofs.RunKeeps.{RunStep, after_world, count, log_keeps, run_keeps, start}
+pub use Rattle.nf_net.proofs.RunKeeps.{RunStep, after_world, count, log_keeps, run_keeps}
 pub use Rattle.nf_net.proofs.answers.BusyLemmas.{AreOther, answered_same, began_same, first_is, is_noted, none_answered, or_off, other_not_answered}
 pub use Rattle.nf_net.proofs.answers.BusyLemmas.{other_not_begun, unanswered}
 pub use Rattle.nf_net.proofs.answers.BusyRuns.{Busy, busy_next, keeps_is, open_began, own_controller, plan_is, told_is}

@@ -1,15 +1,15 @@
 -- Of every run: what is processed came before, and where a packet behind a settle arrives, all commands before the settle are answered.
 use Rattle.nf_net.proofs.Words.{◌≡◌, ℕ, zero, suc, ◌+◌, ◌≤◌, Bool, true, Some, List, [], ◌∷◌, ◌++◌, map, length, length-append, append_assoc, refl, sym, ap}
-use Rattle.nf_net.proofs.Words.{◌∙◌, subst, arith, if◌then◌else◌, ◌==◌, nat_lt, find, is_some, Global, nat_tests, Decides-ltb, Decides-eqb, map-append}
-use Rattle.nf_net.proofs.Words.{each_map, Packet, Output, FunctionLaws, Semantics, same_unit_equiv, Command, Msg, Note, Choice, Network, IsRun, run, world_next}
-use Rattle.nf_net.proofs.Words.{queue_at, at, opening_waiting, opening_weight, total, switch_step, controller_step, Config, Node, has_answered, commands}
-use Rattle.nf_net.proofs.Words.{IsInput, arrivals_in, dones_in, done_where, node_step, node_ready, unit_numbered, is_of, processed_of, has_packet, first_nodes}
-use Rattle.nf_net.proofs.Words.{first_switch, arrived-append, Joined, Label, node_of, Stands, In_first, In_second, stands, switch_unprocessed}
-use Rattle.nf_net.proofs.Words.{controller_uninstalled, uninstalled_unprocessed, given, all_labelled, count_at_start, Unit, nowhere, split, either_way}
+use Rattle.nf_net.proofs.Words.{◌∙◌, subst, arith, if◌then◌else◌, ◌==◌, nat_lt, find, is_some, nat_tests, Decides-ltb, Decides-eqb, map-append, each_map}
+use Rattle.nf_net.proofs.Words.{Packet, Output, same_unit_equiv, Command, Msg, Note, Choice, Network, IsRun, run, world_next, queue_at, at, opening_waiting}
+use Rattle.nf_net.proofs.Words.{opening_weight, total, switch_step, controller_step, Node, has_answered, commands, arrivals_in, dones_in, done_where, node_step}
+use Rattle.nf_net.proofs.Words.{node_ready, unit_numbered, is_of, processed_of, has_packet, first_nodes, first_switch, arrived-append, Joined, Label, node_of}
+use Rattle.nf_net.proofs.Words.{Stands, In_first, In_second, stands, switch_unprocessed, controller_uninstalled, uninstalled_unprocessed, given, all_labelled}
+use Rattle.nf_net.proofs.Words.{count_at_start, Unit, nowhere, split, either_way, Setting, start}
 use Rattle.net_world.specs.Input.{packets}
 use Rattle.net_world.specs.Fold.{times}
 use Rattle.net_world.proofs.NumberCounts.{times-append}
-use Rattle.nf_net.proofs.RunWords.{answering, answered_same, other_not_answered, switch_hands, Busy, busy_next, run_busy, start, count, run_keeps, RunStep}
+use Rattle.nf_net.proofs.RunWords.{answering, answered_same, other_not_answered, switch_hands, Busy, busy_next, run_busy, count, run_keeps, RunStep}
 use Rattle.nf_net.proofs.answers.ArrivalLemmas.{numbers, InRun, next_in_run, runs_joined}
 use Rattle.nf_net.proofs.answers.ArrivalNotes.{controller_notes_none, instance_notes_none}
 use Rattle.proof_outlines.proofs.joined.RunsJoined.{once}
@@ -63,10 +63,11 @@ arrived_there first rest p =
     let one : times p (arrivals_in (Note.Arrived p ∷ rest)) ≡ 1 + times p (arrivals_in rest) = rw self refl in
     omega (arith, all, one)
 
-module _ (F : Type 0) {R : Type 0} (f : Semantics R) (laws : FunctionLaws f) (alloc : Global) (c : Config) (items : List Msg)
-    (is : IsInput f.kind c items) where
+module _ {F R : Type 0} (setting : Setting F R) where
+  open setting use {function as f, alloc, config as c, items, is_input as is}
+
   abbrev at_start : Network (Node F R) Msg Note
-  at_start = start F f laws alloc c items is
+  at_start = start setting
 
   -- what is processed came before
   abbrev pub CameFirst : List Note → Type 0
@@ -122,9 +123,9 @@ module _ (F : Type 0) {R : Type 0} (f : Semantics R) (laws : FunctionLaws f) (al
       absurd (omega (arith, all, turn, one, some, came))) (λ off. grind (arith, nat_tests, off))
 
   -- a choice of a run
-  module _ (w : Network (Node F R) Msg Note) (d : Choice) (s : RunStep F f laws alloc c items is w d)
-      (turn : arrivals_in w.log ++ numbers (queue_at w (at 0 0)) ≡ numbers items) (b : Busy (given f c items is) w) (h : Keeps w) where
-    abbrev j : Joined f (given f c items is) (length c.names + 2) w
+  module _ (w : Network (Node F R) Msg Note) (d : Choice) (s : RunStep setting w d)
+      (turn : arrivals_in w.log ++ numbers (queue_at w (at 0 0)) ≡ numbers items) (b : Busy (given setting) w) (h : Keeps w) where
+    abbrev j : Joined f (given setting) (length c.names + 2) w
     j = s.runs.joined
 
     abbrev v : Network (Node F R) Msg Note
@@ -133,13 +134,13 @@ module _ (F : Type 0) {R : Type 0} (f : Semantics R) (laws : FunctionLaws f) (al
     abbrev its_notes : List Note
     its_notes = (node_step f (node_of j.nodes d.node) d.port s.taking.message).notes
 
-    next : InRun F f laws alloc c items is v
-    next = next_in_run F f laws alloc c items is w d s turn
+    next : InRun setting v
+    next = next_in_run setting w d s turn
 
     counted_next : Counted items v
-    counted_next = counted_after F f laws alloc c items is w j b h.counted d.node d.port s.taking.message s.taking.rest
+    counted_next = counted_after setting w j b h.counted d.node d.port s.taking.message s.taking.rest
         (record { takes = s.takes; ready = s.ready; label = s.taken.label; labels = s.labels; input = s.input })
-        (busy_next f (given f c items is) (length c.names + 2) refl w d s.taking j b)
+        (busy_next f (given setting) (length c.names + 2) refl w d s.taking j b)
 
     -- what an instance processes had arrived
     came_before : (q i : ℕ) (output : Output) (before after : List Note) → its_notes ≡ before ++ Note.Processed q i output ∷ after
@@ -151,7 +152,7 @@ module _ (F : Type 0) {R : Type 0} (f : Semantics R) (laws : FunctionLaws f) (al
         ∙ sym (append_assoc w.log before (Note.Processed q i output ∷ after)) in
         let went_some : 1 ≤ times q (processed_of f c items u v.log) = subst (λ l. 1 ≤ times q (processed_of f c items u l)) (sym log)
         (some_went (is_of f c items u) q i output after own (w.log ++ before)) in
-        let few = once f c items is (length c.names + 2) v next.runs.joined u q in
+        let few = once setting (length c.names + 2) v next.runs.joined u q in
         let less = times_those (is_of f c items u) q (arrivals_in v.log) in
         let same : times q (arrivals_in v.log) ≡ times q (arrivals_in w.log) + 0 = ap (λ l. times q (arrivals_in l)) s.log
         ∙ ap (times q) (arrived-append w.log its_notes) ∙ times-append q (arrivals_in w.log) (arrivals_in its_notes)
@@ -185,7 +186,7 @@ module _ (F : Type 0) {R : Type 0} (f : Semantics R) (laws : FunctionLaws f) (al
         let some = arrived_there before after p in
         let same = ap (λ l. times p (arrivals_in l)) (sym e) in let zero = ap (times p) none in omega (arith, some, same, zero)
 
-    new_answered : (k p : ℕ) (m : Msg) → d.node ≡ k → d.port ≡ p → s.taking.message ≡ m → Label f (given f c items is) p k m → (front behind : List Msg)
+    new_answered : (k p : ℕ) (m : Msg) → d.node ≡ k → d.port ≡ p → s.taking.message ≡ m → Label f (given setting) p k m → (front behind : List Msg)
         → items ≡ front ++ Msg.InSettle ∷ behind → (before after : List Note) (q : ℕ) → has_packet q behind ≡ true
         → (node_step f (node_of j.nodes k) p m).notes ≡ before ++ Note.Arrived q ∷ after → AllAnswered (commands front) w.log
     new_answered zero p m dk dp tm label front behind whole before after q has e =
@@ -195,8 +196,7 @@ module _ (F : Type 0) {R : Type 0} (f : Semantics R) (laws : FunctionLaws f) (al
         let all : AllAnswered (commands front) (w.log ++ notes) = subst (AllAnswered (commands front)) (s.log ∙ ap (λ ns. w.log ++ ns) same)
         (answered_now front behind whole before after q has (same ∙ e)) in
         each_map {P = (λ x. has_answered x.op (w.log ++ notes) ≡ true)} {Q = (λ x. has_answered x.op w.log ≡ true)}
-        (λ x on. sym (answered_same x.op w.log notes (other_not_answered x.op notes (switch_hands f (given f c items is) j.nodes.switch p m label).notes_are))
-        ∙ on)
+        (λ x on. sym (answered_same x.op w.log notes (other_not_answered x.op notes (switch_hands f (given setting) j.nodes.switch p m label).notes_are)) ∙ on)
         (commands front) all
     new_answered (suc zero) p m dk dp tm label front behind whole before after q has e =
         absurd (none_arrives before after q (controller_step j.nodes.controller p m).notes e (controller_notes_none j.nodes.controller p m))
@@ -214,10 +214,10 @@ module _ (F : Type 0) {R : Type 0} (f : Semantics R) (laws : FunctionLaws f) (al
 
   start_keeps : Keeps at_start
   start_keeps =
-      let count = count_at_start F f alloc c items is in
+      let count = count_at_start setting in
       let waits : queue_at at_start (at 0 0) ≡ items = opening_waiting Note (first_nodes {F = F} {R = R} alloc c) items (omega (arith, count)) 0 0 in
       let weight : total answering at_start ≡ 0 = opening_weight Note (first_nodes {F = F} {R = R} alloc c) items answering
-      ∙ items_none f (given f c items is) items (all_labelled f c items is) in
+      ∙ items_none f (given setting) items (all_labelled setting) in
       record {
         counted = record {
           switch = first_switch c;
@@ -237,5 +237,5 @@ module _ (F : Type 0) {R : Type 0} (f : Semantics R) (laws : FunctionLaws f) (al
       none_in (x ∷ cs) = let rest = none_in cs in omega (arith, rest)
 
   pub run_settles : (cs : List Choice) → IsRun node_ready (node_step f) cs at_start → Keeps (run (node_step f) cs at_start)
-  run_settles = run_keeps F f laws alloc c items is (λ _ w. Keeps w) start_keeps (λ ds ok d s. next_keeps (run (node_step f) ds at_start) d s
-      (runs_joined F f laws alloc c items is ds ok).in_turn (run_busy F f laws alloc c items is ds ok).1)
+  run_settles = run_keeps setting (λ _ w. Keeps w) start_keeps (λ ds ok d s. next_keeps (run (node_step f) ds at_start) d s
+      (runs_joined setting ds ok).in_turn (run_busy setting ds ok).1)

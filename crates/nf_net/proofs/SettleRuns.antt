@@ -1,13 +1,13 @@
 -- Of every run: a packet after a settle is processed where the rules of the switch send it, if no command after the settle has begun.
 use Rattle.nf_net.proofs.Words.{◌≡◌, ℕ, Bool, true, false, Option, Some, None, List, ◌∷◌, ◌++◌, append_assoc, refl, sym, ap, ◌∙◌, subst, arith, ◌&&◌, ◌==◌, not}
-use Rattle.nf_net.proofs.Words.{option_map_or, Global, or_left, Output, FunctionLaws, Semantics, Command, Msg, Note, Choice, Network, IsRun, run, Each}
-use Rattle.nf_net.proofs.Words.{each-append, each_map, Config, Node, is_begun, has_answered, is_busy, times_installed, packet_numbered, commands}
-use Rattle.nf_net.proofs.Words.{order_numbered, IsInput, job_of, installs_in, node_step, node_ready, first_owner, owner_after, members_after, is_home, owner}
+use Rattle.nf_net.proofs.Words.{option_map_or, or_left, Output, Command, Msg, Note, Choice, Network, IsRun, run, Each}
+use Rattle.nf_net.proofs.Words.{each-append, each_map, Node, is_begun, has_answered, is_busy, times_installed, packet_numbered, commands}
+use Rattle.nf_net.proofs.Words.{order_numbered, job_of, installs_in, node_step, node_ready, first_owner, owner_after, members_after, is_home, owner}
 use Rattle.nf_net.proofs.Words.{members, member_for, unit_numbered, IsMoving, IsPlace, Owns, Is_destination, Is_member, ArePlaces, has_packet, has_begun-append}
-use Rattle.nf_net.proofs.Words.{installed-append, all_each, Given, Stands, In_first, In_second, stands, given, Unit, Order}
+use Rattle.nf_net.proofs.Words.{installed-append, all_each, Given, Stands, In_first, In_second, stands, given, Unit, Order, Setting, start}
 use Rattle.net_world.specs.Places.{goes_to}
 use Rattle.net_world.specs.Settles.{IsAfterSettle, NoneBegan, Settles}
-use Rattle.nf_net.proofs.RunWords.{run_answers, units_fit, start}
+use Rattle.nf_net.proofs.RunWords.{run_answers, units_fit}
 use Rattle.nf_net.proofs.AtMembers.{at_members}
 use Rattle.nf_net.proofs.InstalledShares.{IsInstalledShare, says_of_shares}
 use Rattle.nf_net.proofs.MemberLemmas.{IsSharedBy, shared_by, still_shared, InstalledIn, installed_in, times_there}
@@ -21,10 +21,11 @@ off_answered false y h = refl
 off_began : (x y : Bool) → x ≡ false → x && not y ≡ false
 off_began x y h = rw h refl
 
-module _ (F : Type 0) {R : Type 0} (f : Semantics R) (laws : FunctionLaws f) (alloc : Global) (c : Config) (items : List Msg)
-    (is : IsInput f.kind c items) where
+module _ {F R : Type 0} (setting : Setting F R) where
+  open setting use {function as f, config as c, items}
+
   abbrev at_start : Network (Node F R) Msg Note
-  at_start = start F f laws alloc c items is
+  at_start = start setting
 
   module _ (cs : List Choice) (run_is : IsRun node_ready (node_step f) cs at_start) (later : List Msg)
       (settle : IsAfterSettle items later) (before after : List Note) (p i : ℕ) (output : Output) (has : has_packet p later ≡ true)
@@ -40,13 +41,13 @@ module _ (F : Type 0) {R : Type 0} (f : Semantics R) (laws : FunctionLaws f) (al
 
     -- it arrived after the answers to what stands before the settle
     arrival : ArrivedIn before p
-    arrival = arrived_in before p ((run_settles F f laws alloc c items is cs run_is).came before after p i output e)
+    arrival = arrived_in before p ((run_settles setting cs run_is).came before after p i output e)
 
     log_is : log ≡ arrival.first ++ Note.Arrived p ∷ (arrival.rest ++ tail)
     log_is = e ∙ ap (λ v. v ++ tail) arrival.whole ∙ append_assoc arrival.first (Note.Arrived p ∷ arrival.rest) tail
 
     answered : AllAnswered (commands settle.front) arrival.first
-    answered = (run_settles F f laws alloc c items is cs run_is).answered settle.front later settle.whole arrival.first (arrival.rest ++ tail) p has log_is
+    answered = (run_settles setting cs run_is).answered settle.front later settle.whole arrival.first (arrival.rest ++ tail) p has log_is
 
     answered_there : AllAnswered (commands settle.front) before
     answered_there = subst (AllAnswered (commands settle.front)) (sym arrival.whole)
@@ -84,8 +85,8 @@ module _ (F : Type 0) {R : Type 0} (f : Semantics R) (laws : FunctionLaws f) (al
 
     -- So the share that has the unit had it when the packet arrived
     module _ (ms : List (List ℕ)) (shared : members c items u before ≡ Some ms) where
-      by : IsSharedBy (given f c items is) u (first_owner u c.routes) (installs_in before) ms
-      by = shared_by (given f c items is) u (first_owner u c.routes) (installs_in before) ms shared
+      by : IsSharedBy (given setting) u (first_owner u c.routes) (installs_in before) ms
+      by = shared_by (given setting) u (first_owner u c.routes) (installs_in before) ms shared
 
       there : InstalledIn before by.front by.op
       there = installed_in before by.front by.op by.back by.whole
@@ -95,14 +96,14 @@ module _ (F : Type 0) {R : Type 0} (f : Semantics R) (laws : FunctionLaws f) (al
       had_before xs here =
           ap (members_after c.names (order_numbered items) u (first_owner u c.routes))
           (ap installs_in here ∙ installed-append there.first (Note.Installed by.op ∷ xs) ∙ ap (λ v. v ++ by.op ∷ installs_in xs) there.before)
-          ∙ still_shared (given f c items is) u (first_owner u c.routes) by.op by.front (installs_in xs) ms by.unshared by.its
+          ∙ still_shared (given setting) u (first_owner u c.routes) by.op by.front (installs_in xs) ms by.unshared by.its
 
       -- for after an answer it would be installed twice
       not_behind : (xs : List Note) → there.first ≡ arrival.first ++ xs → ⊥
       not_behind xs from =
           let tail_is : log ≡ there.first ++ Note.Installed by.op ∷ (there.rest ++ tail) = e ∙ ap (λ v. v ++ tail) there.whole
           ∙ append_assoc there.first (Note.Installed by.op ∷ there.rest) tail in
-          let its : IsInstalledShare f c items there.first by.op ms by.its.filter = (says_of_shares F f laws alloc c items is cs run_is).installs
+          let its : IsInstalledShare f c items there.first by.op ms by.its.filter = (says_of_shares setting cs run_is).installs
           there.first (there.rest ++ tail) by.op ms by.its.filter tail_is by.its.order_is in
           let began_so : is_begun by.op before ≡ true = ap (is_begun by.op) there.whole ∙ has_begun-append (λ k. k == by.op) there.first
           (Note.Installed by.op ∷ there.rest) ∙ or_left (is_begun by.op there.first) (is_begun by.op (Note.Installed by.op ∷ there.rest)) its.begun in
@@ -114,9 +115,9 @@ module _ (F : Type 0) {R : Type 0} (f : Semantics R) (laws : FunctionLaws f) (al
           let home : is_home c.names (order_numbered items) ms (owner c items u there.first) ≡ true =
           ap (λ ops. is_home c.names (order_numbered items) ms (owner_after c.names (order_numbered items) u (first_owner u c.routes) ops)) there.before
           ∙ by.its.home in
-          let one = its.set_up u (units_fit f c items is p) by.its.takes_it home on_there in
+          let one = its.set_up u (units_fit setting p) by.its.takes_it home on_there in
           let two = ap (times_installed by.op) tail_is ∙ times_there by.op there.first (there.rest ++ tail) in
-          let most = (run_answers F f laws alloc c items is cs run_is).installed_once by.op in
+          let most = (run_answers setting cs run_is).installed_once by.op in
           omega (arith, one, two, most)
 
       shared_then : members c items u arrival.first ≡ Some ms
@@ -135,7 +136,7 @@ module _ (F : Type 0) {R : Type 0} (f : Semantics R) (laws : FunctionLaws f) (al
     owned : i ≡ owner c items u before → (o : Option (List (List ℕ))) → members c items u before ≡ o → goes_to c items f.kind p before ≡ Some i
     owned at None shared = goes_by None shared ∙ ap Some (sym at)
     owned at (Some ms) shared = goes_by (Some ms) shared
-        ∙ at_members F f laws alloc c items is cs run_is arrival.first arrival.rest after p i output ms log_is (shared_then ms shared)
+        ∙ at_members setting cs run_is arrival.first arrival.rest after p i output ms log_is (shared_then ms shared)
 
     by_place : IsPlace (job_of f c items) p before i → goes_to c items f.kind p before ≡ Some i
     by_place (Owns at) = owned at (members c items u before) refl

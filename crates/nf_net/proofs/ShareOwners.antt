@@ -1,12 +1,12 @@
 -- In every run, who owns a unit when a share that takes it begins owns it for good: no move that takes the unit is under way then, and none begins.
 use Rattle.nf_net.proofs.Words.{◌≡◌, ℕ, zero, suc, ◌+◌, Bool, true, false, Some, List, [], ◌∷◌, ◌++◌, length, refl, sym, ap, ◌∙◌, subst, append-nil, ◌||◌, ◌==◌}
-use Rattle.nf_net.proofs.Words.{list_any, option_map_or, Global, Filter, FunctionLaws, Semantics, takes, Msg, Note, instance_node, switch_step, controller_step}
-use Rattle.nf_net.proofs.Words.{Choice, Network, IsRun, run, world_next, Each, each_found, OpLabel, NothingOf, found_each, Any, olds, moves_of, Where, seeing}
-use Rattle.nf_net.proofs.Words.{no_change, WhereAll, Apart_from_shares, Under_share, Config, Node, is_begun, IsInput, order_numbered, before_begun, begin_in}
-use Rattle.nf_net.proofs.Words.{installs_in, node_step, node_ready, first_owner, owner_after_order, owner_after, owner, has_begun-append, installed-append}
+use Rattle.nf_net.proofs.Words.{list_any, option_map_or, Filter, Semantics, takes, Msg, Note, instance_node, switch_step, controller_step}
+use Rattle.nf_net.proofs.Words.{Choice, Network, world_next, Each, each_found, OpLabel, NothingOf, found_each, Any, olds, moves_of, Where, seeing}
+use Rattle.nf_net.proofs.Words.{no_change, WhereAll, Apart_from_shares, Under_share, Config, Node, is_begun, order_numbered, before_begun, begin_in}
+use Rattle.nf_net.proofs.Words.{installs_in, node_step, first_owner, owner_after_order, owner_after, owner, has_begun-append, installed-append}
 use Rattle.nf_net.proofs.Words.{any_picked, before_kept, before_new, unit_fits, is_whole, takes_whole, takes_same, is_sys, Both, both, Given, place, owner_next}
 use Rattle.nf_net.proofs.Words.{S, A, Joined, came_by, Scene, IsTaken, node_of, scene, Wants, node_leads, AllApart, installed_quiet, installed_none}
-use Rattle.nf_net.proofs.Words.{instance_quiet, controller_uninstalled, Runs, given, all_fit, Unit, Order, split}
+use Rattle.nf_net.proofs.Words.{instance_quiet, controller_uninstalled, Runs, given, all_fit, Unit, Order, split, Setting, IsCourse, world_of}
 use Rattle.std.specs.List.{position_or_len}
 use Rattle.proof_machines.proofs.unit.Real as real
 use Rattle.proof_machines.proofs.net.GlobalAll.{Disjoint}
@@ -15,7 +15,7 @@ use Rattle.proof_machines.proofs.net.Shares.{Old}
 use Rattle.proof_machines.proofs.net.Units.{At_rest, In_move, see}
 use Rattle.net_world.specs.Log.{change_in}
 use Rattle.net_world.proofs.PickedLists.{before_all, front_picked}
-use Rattle.nf_net.proofs.RunWords.{Busy, run_busy, start, count, log_keeps}
+use Rattle.nf_net.proofs.RunWords.{Busy, run_busy, count, log_keeps}
 use Rattle.nf_net.proofs.RuleSteps.{Changed, No_rule, Moves_on, Diverts, changed}
 use Rattle.nf_net.proofs.SourceSteps.{owner_stays}
 use Rattle.nf_net.proofs.UnitShares.{IsOpenShare, open_begun}
@@ -48,15 +48,16 @@ or_none true e = refl
 or_none false e = e
 
 -- A share that began, in a world of a run, and a unit that it takes.
-module _ {F R : Type 0} (f : Semantics R) (c : Config) (items : List Msg) (is : IsInput f.kind c items) (n : ℕ) (count_is : n ≡ length c.names + 2)
-    (w : Network (Node F R) Msg Note) (j : Joined f (given f c items is) n w) (apart : AllApart j.nodes.controller.operations)
-    (b : Busy (given f c items is) w) (op : ℕ) (ms : List (List ℕ)) (filter : Filter) (what : order_numbered items op ≡ Some (Order.Share ms filter))
-    (begun : is_begun op w.log ≡ true) where
-  abbrev g : Given
-  g = given f c items is
+module _ {F R : Type 0} (setting : Setting F R) (n : ℕ) (count_is : n ≡ length setting.config.names + 2) (w : Network (Node F R) Msg Note)
+    (j : Joined setting.function (given setting) n w) (apart : AllApart j.nodes.controller.operations) (b : Busy (given setting) w) (op : ℕ)
+    (ms : List (List ℕ)) (filter : Filter) (what : order_numbered setting.items op ≡ Some (Order.Share ms filter)) (begun : is_begun op w.log ≡ true) where
+  open setting use {function as f}
 
-  pub begun_open : IsOpenShare f c items is n count_is w j apart b op ms filter
-  begun_open = open_begun f c items is n count_is w j apart b op ms filter what begun
+  abbrev g : Given
+  g = given setting
+
+  pub begun_open : IsOpenShare setting n count_is w j apart b op ms filter
+  begun_open = open_begun setting n count_is w j apart b op ms filter what begun
 
   pub begun_seen : Both f (place g) g.site j.world.shares j.nodes.controller op begun_open.state
   begun_seen = both f (place g) g.site j.world.ops j.world.shares j.nodes.controller op begun_open.state j.shown_is.controller.opens begun_open.there
@@ -102,17 +103,15 @@ module _ {R : Type 0} (f : Semantics R) (c : Config) (items : List Msg) where
       (λ off. ap (by u) (all_before op log off))
       ∙ sym (owner_stays f c items u log notes none)
 
-module _ (F : Type 0) {R : Type 0} (f : Semantics R) (laws : FunctionLaws f) (alloc : Global) (c : Config) (items : List Msg)
-    (is : IsInput f.kind c items) where
+module _ {F R : Type 0} (setting : Setting F R) where
+  open setting use {function as f, laws, config as c, items}
+
   abbrev gr : Given
-  gr = given f c items is
+  gr = given setting
 
-  abbrev first : Network (Node F R) Msg Note
-  first = start F f laws alloc c items is
-
-  module _ (w : Network (Node F R) Msg Note) (r : Runs F f laws alloc c items is w) (b : Busy gr w) (h : OwnersStay f c items w.log) where
+  module _ (w : Network (Node F R) Msg Note) (r : Runs setting w) (b : Busy gr w) (h : OwnersStay f c items w.log) where
     abbrev here : Scene F f gr
-    here = scene f gr (length c.names + 2) refl (Wants f gr) (node_leads f laws gr (all_fit f c items is) (length c.names + 2)) w r.joined
+    here = scene f gr (length c.names + 2) refl (Wants f gr) (node_leads f laws gr (all_fit setting) (length c.names + 2)) w r.joined
 
     -- a change of the rules that leaves such units with their owner
     change_stays : (k : ℕ) → ((op : ℕ) (ms : List (List ℕ)) (filter : Filter) (u : Unit)
@@ -134,7 +133,7 @@ module _ (F : Type 0) {R : Type 0} (f : Semantics R) (laws : FunctionLaws f) (al
         subst (λ ns. OwnersStay f c items (w.log ++ ns)) (sym noted) (change_stays k (λ op ms filter u what on fits world_next.
         let order_is : order_numbered items k ≡ Some (Order.Move its.plan_is.source its.plan_is.destination flt its.plan.keep) = its.plan_is.order_is
         ∙ ap (λ y. Some (Order.Move its.plan_is.source its.plan_is.destination y its.plan.keep)) its.filter_is in
-        let off : takes flt u ≡ false = unmoved f c items is
+        let off : takes flt u ≡ false = unmoved setting
         (length c.names + 2) refl w r.joined r.beside.kept.apart b op ms filter what on u fits world_next k flt
         (instance_node from) (instance_node dst) rest whole waits in
         rw (order_is, off) refl))
@@ -149,6 +148,6 @@ module _ (F : Type 0) {R : Type 0} (f : Semantics R) (laws : FunctionLaws f) (al
     step_stays (suc (suc y)) p m it = quiet_owners f c items w.log (node_step f (node_of r.joined.nodes (suc (suc y))) p m).notes
         (installed_quiet (r.joined.nodes.instance (suc (suc y))).index _ (instance_quiet f (r.joined.nodes.instance (suc (suc y))) m)) h
 
-  pub owners_stay : (cs : List Choice) → IsRun node_ready (node_step f) cs first → OwnersStay f c items (run (node_step f) cs first).log
-  owners_stay = log_keeps F f laws alloc c items is (OwnersStay f c items) (λ op ms filter u what begun fits world_next. cc) (λ ds ok d s h. step_stays
-      (run (node_step f) ds first) s.runs (run_busy F f laws alloc c items is ds ok).1 h d.node d.port s.taking.message s.taken)
+  pub owners_stay : (cs : List Choice) → IsCourse setting cs → OwnersStay f c items (world_of setting cs).log
+  owners_stay = log_keeps setting (OwnersStay f c items) (λ op ms filter u what begun fits world_next. cc) (λ ds ok d s h. step_stays
+      (world_of setting ds) s.runs (run_busy setting ds ok).1 h d.node d.port s.taking.message s.taken)

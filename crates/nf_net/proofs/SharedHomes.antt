@@ -1,33 +1,34 @@
 -- The share that a unit is under, by the log: its home owns the unit, and each packet of the unit goes to its member. So in every run.
-use Rattle.nf_net.proofs.Words.{◌≡◌, ℕ, ◌+◌, Bool, true, false, Some, List, length, refl, sym, ap, ◌∙◌, arith, if◌then◌else◌, ◌&&◌, Global, option_map_or}
-use Rattle.nf_net.proofs.Words.{and_parts, FunctionLaws, Semantics, takes, same_unit-true, Msg, Note, instance_node, Choice, Network, IsRun, run, shape}
-use Rattle.nf_net.proofs.Words.{unit_share, OpenShare, WantShare, Under, seeing, ItsShare, its_share, Config, Node, is_of, packet_numbered, IsInput, node_step}
-use Rattle.nf_net.proofs.Words.{node_ready, owner, members, member_for, unit_numbered, is_whole, unit_fits, is_sys, Given, S, A, Joined, AllApart, run_beside}
-use Rattle.nf_net.proofs.Words.{given, Unit, either_way, Runs}
+use Rattle.nf_net.proofs.Words.{◌≡◌, ℕ, ◌+◌, Bool, true, false, Some, List, length, refl, sym, ap, ◌∙◌, arith, if◌then◌else◌, ◌&&◌, option_map_or, and_parts}
+use Rattle.nf_net.proofs.Words.{takes, same_unit-true, Msg, Note, instance_node, Choice, Network, shape, unit_share, OpenShare, WantShare, Under, seeing}
+use Rattle.nf_net.proofs.Words.{ItsShare, its_share, Node, is_of, packet_numbered, owner, members, member_for, unit_numbered, is_whole, unit_fits, is_sys}
+use Rattle.nf_net.proofs.Words.{Given, S, A, Joined, AllApart, run_beside, given, Unit, either_way, Runs, Setting, IsCourse, world_of}
 use Rattle.net_world.specs.Places.{goes_to}
-use Rattle.nf_net.proofs.RunWords.{Busy, run_busy, Installs, run_installs, HomesOwn, start, count}
+use Rattle.nf_net.proofs.RunWords.{Busy, run_busy, Installs, run_installs, HomesOwn, count}
 use Rattle.nf_net.proofs.InstalledShares.{SaysOfShares, says_of_shares}
 use Rattle.nf_net.proofs.MemberLemmas.{IsThere, There}
 use Rattle.nf_net.proofs.UnitShares.{share_of_unit, home_is, member_is, diverted_members, owner_goes}
 
-module _ {F R : Type 0} (f : Semantics R) (c : Config) (items : List Msg) (is : IsInput f.kind c items) (n : ℕ) (count_is : n ≡ length c.names + 2)
-    (w : Network (Node F R) Msg Note) (j : Joined f (given f c items is) n w) (apart : AllApart j.nodes.controller.operations)
-    (b : Busy (given f c items is) w) (h : Installs (given f c items is) w) (says : SaysOfShares f c items w.log) where
+module _ {F R : Type 0} (setting : Setting F R) (n : ℕ) (count_is : n ≡ length setting.config.names + 2) (w : Network (Node F R) Msg Note)
+    (j : Joined setting.function (given setting) n w) (apart : AllApart j.nodes.controller.operations) (b : Busy (given setting) w)
+    (h : Installs (given setting) w) (says : SaysOfShares setting.function setting.config setting.items w.log) where
+  open setting use {function as f, config as c, items}
+
   abbrev g : Given
-  g = given f c items is
+  g = given setting
 
   module _ (u : Unit) (fits : unit_fits f.kind u ≡ true) (e : OpenShare) (its : ItsShare (S f g) (A f g) (is_sys f g.site g.packet) u j.world e) where
     pub home_owns : IsThere (members c items u w.log) → e.home ≡ instance_node (owner c items u w.log)
     home_owns (There names shared) =
-        let r = share_of_unit f c items is n count_is w j apart b u fits h names shared in
-        home_is f c items is n count_is w j apart b u fits r.op names r.filter r.open_is r.takes_it e its (owner c items u w.log)
+        let r = share_of_unit setting n count_is w j apart b u fits h names shared in
+        home_is setting n count_is w j apart b u fits r.op names r.filter r.open_is r.takes_it e its (owner c items u w.log)
         (says.homes u fits names shared)
 
     pub member_goes : (p i : ℕ) → unit_numbered c items f.kind p ≡ u → (A f g).member e.members p ≡ instance_node i → IsThere (members c items u w.log)
         → goes_to c items f.kind p w.log ≡ Some i
     member_goes p i unit at (There names shared) =
-        let r = share_of_unit f c items is n count_is w j apart b u fits h names shared in
-        let member : member_for c items names (packet_numbered items p) ≡ Some i = member_is f c items is n count_is w j apart b u fits r.op names r.filter
+        let r = share_of_unit setting n count_is w j apart b u fits h names shared in
+        let member : member_for c items names (packet_numbered items p) ≡ Some i = member_is setting n count_is w j apart b u fits r.op names r.filter
         r.open_is r.takes_it e its p i at in
         ap (λ q. option_map_or (λ ns. member_for c items ns (packet_numbered items p)) (members c items q w.log) (Some (owner c items q w.log))) unit
         ∙ ap (λ o. option_map_or (λ ns. member_for c items ns (packet_numbered items p)) o (Some (owner c items u w.log))) shared
@@ -52,29 +53,26 @@ module _ {F R : Type 0} (f : Semantics R) (c : Config) (items : List Msg) (is : 
     target d is_so = k.holds.target ∙ ap (λ t. if t then 1 else x.home) is_so
 
     home_owner : instance_node (owner c items u w.log) ≡ x.home
-    home_owner = either_way diverts (λ on. sym (home_owns u fits_here e_here its_here (diverted_members f c items is n w j u fits_here (target true on))))
+    home_owner = either_way diverts (λ on. sym (home_owns u fits_here e_here its_here (diverted_members setting n w j u fits_here (target true on))))
         (λ off. (let at = target false off in
-        let two = k.insts x.home k.is.home_in in sym (owner_goes f c items is n w j u fits_here (omega (arith, at, two))) ∙ at))
+        let two = k.insts x.home k.is.home_in in sym (owner_goes setting n w j u fits_here (omega (arith, at, two))) ∙ at))
 
     -- a packet of it goes to its member, while the switch diverts them
     pub goes_so : diverts ≡ true → (p : ℕ) → is_of f c items u p ≡ true → (i : ℕ) → (A f g).member x.members p ≡ instance_node i
         → goes_to c items f.kind p w.log ≡ Some i
     goes_so on p mine i at = member_goes u fits_here e_here its_here p i (same_unit-true (unit_numbered c items f.kind p) u mine) at
-        (diverted_members f c items is n w j u fits_here (target true on))
+        (diverted_members setting n w j u fits_here (target true on))
 
-  pub homes_own : HomesOwn f c items is n count_is w j
+  pub homes_own : HomesOwn setting n count_is w j
   homes_own u x before since k = home_owner u x before since k
 
-module _ (F : Type 0) {R : Type 0} (f : Semantics R) (laws : FunctionLaws f) (alloc : Global) (c : Config) (items : List Msg)
-    (is : IsInput f.kind c items) where
+module _ {F R : Type 0} (setting : Setting F R) where
   abbrev after : List Choice → Network (Node F R) Msg Note
-  after cs = run (node_step f) cs (start F f laws alloc c items is)
+  after cs = world_of setting cs
 
-  pub homes_of : (cs : List Choice) → IsRun node_ready (node_step f) cs (start F f laws alloc c items is) → (r : Runs F f laws alloc c items is (after cs))
-      → HomesOwn f c items is (count F f laws alloc c items is) refl (after cs) r.joined
-  homes_of cs runs r = homes_own f c items is (count F f laws alloc c items is) refl (after cs) r.joined r.beside.kept.apart
-      (run_busy F f laws alloc c items is cs runs).1 (run_installs F f laws alloc c items is cs runs) (says_of_shares F f laws alloc c items is cs runs)
+  pub homes_of : (cs : List Choice) → IsCourse setting cs → (r : Runs setting (after cs)) → HomesOwn setting (count setting) refl (after cs) r.joined
+  homes_of cs runs r = homes_own setting (count setting) refl (after cs) r.joined r.beside.kept.apart
+      (run_busy setting cs runs).1 (run_installs setting cs runs) (says_of_shares setting cs runs)
 
-  pub run_homes : (cs : List Choice) (runs : IsRun node_ready (node_step f) cs (start F f laws alloc c items is))
-      → HomesOwn f c items is (count F f laws alloc c items is) refl (after cs) (run_beside F f laws alloc c items is cs runs).joined
-  run_homes cs runs = homes_of cs runs (run_beside F f laws alloc c items is cs runs)
+  pub run_homes : (cs : List Choice) (runs : IsCourse setting cs) → HomesOwn setting (count setting) refl (after cs) (run_beside setting cs runs).joined
+  run_homes cs runs = homes_of cs runs (run_beside setting cs runs)

@@ -1,19 +1,19 @@
 -- In every run the packets of units that a refused move was to take from its source were processed there, from its begin to its answer.
 use Rattle.nf_net.proofs.Words.{◌≡◌, ◌≢◌, ℕ, zero, suc, ◌<◌, Bool, true, false, Option, Some, None, List, [], ◌∷◌, ◌++◌, length, length-append, get_or}
-use Rattle.nf_net.proofs.Words.{append_assoc, append-nil, refl, sym, ap, ◌∙◌, subst, arith, ◌&&◌, ◌||◌, ◌==◌, not, Global, nat_cmp, nat_tests, Decides-eqb}
-use Rattle.nf_net.proofs.Words.{Decides-ltb, and_parts, Filter, Output, FunctionLaws, Semantics, Answer, Msg, Note, instance_node, switch_step, MoveState}
+use Rattle.nf_net.proofs.Words.{append_assoc, append-nil, refl, sym, ap, ◌∙◌, subst, arith, ◌&&◌, ◌||◌, ◌==◌, not, nat_cmp, nat_tests, Decides-eqb}
+use Rattle.nf_net.proofs.Words.{Decides-ltb, and_parts, Filter, Output, Answer, Msg, Note, instance_node, switch_step, MoveState}
 use Rattle.nf_net.proofs.Words.{Operation, Move, Copy, Share, ControllerState, controller_step, opened_controller, place_of, Choice, Network, IsRun, reaches}
-use Rattle.nf_net.proofs.Words.{run, world_next, at, Takes, taken_outcome, Config, Node, Controller, is_begun, has_answered, is_busy, answers_of, times_begun}
-use Rattle.nf_net.proofs.Words.{IsInput, order_numbered, node_step, node_ready, owner, owner_after_order, unit_numbered, begins_in, answers_of-append}
+use Rattle.nf_net.proofs.Words.{run, world_next, at, Takes, taken_outcome, Node, Controller, is_begun, has_answered, is_busy, answers_of, times_begun}
+use Rattle.nf_net.proofs.Words.{order_numbered, node_step, node_ready, owner, owner_after_order, unit_numbered, begins_in, answers_of-append}
 use Rattle.nf_net.proofs.Words.{times_begun-append, counted_now, owner_next, known, Given, Label, IsTaken, Joined, node_of, scene, Wants, node_leads}
 use Rattle.nf_net.proofs.Words.{installed_none, Stands, In_first, In_second, stands, each_there, switch_unprocessed, controller_uninstalled}
-use Rattle.nf_net.proofs.Words.{uninstalled_unprocessed, Runs, given, all_fit, Order, Done, nowhere, split}
+use Rattle.nf_net.proofs.Words.{uninstalled_unprocessed, Runs, given, all_fit, Order, Done, nowhere, split, Setting, start}
 use Rattle.std.specs.FinMap as finite
 use Rattle.nf_function.specs.Units.{takes as takes_unit}
 use Rattle.net_world.specs.Refused.{moves_away, StaysAtSource}
 use Rattle.nf_net.proofs.answers.BusyLemmas.{AreOther, is_other, other_not_begun}
 use Rattle.nf_net.proofs.RunWords.{switch_hands, instance_says, Busy, own_controller, busy_next, run_busy, controller_acts, passed, AreUnderWay}
-use Rattle.nf_net.proofs.RunWords.{moves_under_way, units_fit, start, count, run_keeps}
+use Rattle.nf_net.proofs.RunWords.{moves_under_way, units_fit, count, run_keeps}
 use Rattle.nf_net.proofs.answers.ControllerActs.{IsEarly, Was, Was.Was_open, Was.Begins_now, SaysSo, SaysSo.Neither, SaysSo.Begins, SaysSo.Answers, Acts}
 use Rattle.nf_net.proofs.InstalledShares.{Alone, Is_it, alone}
 use Rattle.nf_net.proofs.RuleSteps.{Changed, No_rule, Moves_on, Diverts, changed}
@@ -34,16 +34,17 @@ abbrev answer_of_note : Answer → Note → Answer
 answer_of_note d (Note.Answered op a) = a
 answer_of_note d n = d
 
-module _ (F : Type 0) {R : Type 0} (f : Semantics R) (laws : FunctionLaws f) (alloc : Global) (c : Config) (items : List Msg)
-    (is : IsInput f.kind c items) where
+module _ {F R : Type 0} (setting : Setting F R) where
+  open setting use {function as f, laws, config as c, items}
+
   abbrev g : Given
-  g = given f c items is
+  g = given setting
 
   abbrev n : ℕ
-  n = count F f laws alloc c items is
+  n = count setting
 
   abbrev at_start : Network (Node F R) Msg Note
-  at_start = start F f laws alloc c items is
+  at_start = start setting
 
   reach : reaches n 1 0 ≡ true
   reach = let some = (Decides-ltb 0 n).1 (omega arith) in rw some refl
@@ -80,15 +81,14 @@ module _ (F : Type 0) {R : Type 0} (f : Semantics R) (laws : FunctionLaws f) (al
       }) e away
       by_place (In_second cs from there) = new op refused.answer first between cs refused.after refused.refused from there front behind number i output e away
 
-  module _ (w : Network (Node F R) Msg Note) (r : Runs F f laws alloc c items is w) (under : AreUnderWay f c items is n w r.joined)
-      (h : Keeps w) where
+  module _ (w : Network (Node F R) Msg Note) (r : Runs setting w) (under : AreUnderWay setting n w r.joined) (h : Keeps w) where
     abbrev j : Joined f g n w
     j = r.joined
 
     -- what a node takes in a run
     abbrev In_run : ℕ → ℕ → Msg → Type 0
     In_run k p m =
-        IsTaken f g n (scene f g n refl (Wants f g) (node_leads f laws g (all_fit f c items is) n) w r.joined) (record { node = k; port = p; message = m })
+        IsTaken f g n (scene f g n refl (Wants f g) (node_leads f laws g (all_fit setting) n) w r.joined) (record { node = k; port = p; message = m })
 
     same_one : 1 < n → h.controller ≡ j.nodes.controller
     same_one there = own_controller j there h.controller h.controller_is
@@ -122,7 +122,7 @@ module _ (F : Type 0) {R : Type 0} (f : Semantics R) (laws : FunctionLaws f) (al
     switch_leaves p m it (No_rule none) op x there early u fits owning owned = quiet_leaves f c items x.plan.filter x.plan.from w.log
         (switch_step j.nodes.switch m).notes none (switch_unprocessed j.nodes.switch m) u fits owning owned
     switch_leaves p m it (Moves_on k filter from dst rest noted its whole waits) op x there early u fits owning owned =
-        let off = other_change f laws c items is n w j op x there early u fits owning owned k filter (instance_node from) (instance_node dst) rest whole
+        let off = other_change setting n w j op x there early u fits owning owned k filter (instance_node from) (instance_node dst) rest whole
         waits in
         let plan = its.plan_is in
         let order_is = plan.order_is ∙ ap (λ y. Some (Order.Move plan.source plan.destination y its.plan.keep)) its.filter_is in
@@ -209,7 +209,7 @@ module _ (F : Type 0) {R : Type 0} (f : Semantics R) (laws : FunctionLaws f) (al
               rw (order_is, from_is) at away in
               let owned = (Decides-eqb (owner c items (unit_numbered c items f.kind number) first) x.plan.from).0
               (and_parts (takes_unit x.plan.filter (unit_numbered c items f.kind number)) _ both).1 in
-              let stayed = kept op x got early first between (unit_numbered c items f.kind number) whole (units_fit f c items is number)
+              let stayed = kept op x got early first between (unit_numbered c items f.kind number) whole (units_fit setting number)
               (and_parts (takes_unit x.plan.filter (unit_numbered c items f.kind number)) _ both).0 owned in
               each_there (Is_at f c items (unit_numbered c items f.kind number) x.plan.from) front (Note.Processed number i output) behind
               (subst (λ ns. AreAt f c items (unit_numbered c items f.kind number) x.plan.from ns) e stayed.1) refl ∙ sym owned
@@ -279,7 +279,7 @@ module _ (F : Type 0) {R : Type 0} (f : Semantics R) (laws : FunctionLaws f) (al
         (switch_leaves p m it (changed f g n _ j.shown_is p m it))
     keeps (suc zero) p m rest takes it after = controller_keeps p m rest takes it.label after
     keeps (suc (suc y)) p m rest takes it after = others_keep (suc (suc y)) p m rest takes (λ e. cc) (instance_says f g (suc (suc y))
-        (j.nodes.instance (suc (suc y))) m).notes_are (λ op x there early. instance_leaves f laws c items is n w j op x there early y p m it)
+        (j.nodes.instance (suc (suc y))) m).notes_are (λ op x there early. instance_leaves setting n w j op x there early y p m it)
 
   start_keeps : Keeps at_start
   start_keeps = record {
@@ -294,6 +294,6 @@ module _ (F : Type 0) {R : Type 0} (f : Semantics R) (laws : FunctionLaws f) (al
 
   -- of every run
   pub stays_at_source : (cs : List Choice) → IsRun node_ready (node_step f) cs at_start → StaysAtSource c items f.kind (run (node_step f) cs at_start).log
-  stays_at_source cs run_is = (run_keeps F f laws alloc c items is (λ _ w. Keeps w) start_keeps (λ ds ok d s h. keeps (run (node_step f) ds at_start) s.runs
-      (moves_under_way F f laws alloc c items is ds ok s.runs.joined) h d.node d.port s.taking.message s.taking.rest s.takes s.taken
-      (busy_next f g n refl (run (node_step f) ds at_start) d s.taking s.runs.joined (run_busy F f laws alloc c items is ds ok).1)) cs run_is).at_source
+  stays_at_source cs run_is = (run_keeps setting (λ _ w. Keeps w) start_keeps (λ ds ok d s h. keeps (run (node_step f) ds at_start) s.runs
+      (moves_under_way setting ds ok s.runs.joined) h d.node d.port s.taking.message s.taking.rest s.takes s.taken
+      (busy_next f g n refl (run (node_step f) ds at_start) d s.taking s.runs.joined (run_busy setting ds ok).1)) cs run_is).at_source

@@ -1,13 +1,13 @@
 -- As long as a move hasn't changed the rules, a unit that it takes from its source stays with the source: what each node's step keeps of it.
 use Rattle.nf_net.proofs.Words.{◌≡◌, ◌≢◌, ℕ, suc, true, false, Option, Some, None, List, [], ◌∷◌, ◌++◌, append_assoc, refl, sym, ap, ◌∙◌, subst, arith, ◌&&◌}
-use Rattle.nf_net.proofs.Words.{◌||◌, ◌==◌, filter_map, nat_tests, or-true, Filter, Output, FunctionLaws, Semantics, takes, stored_of, same_unit}
+use Rattle.nf_net.proofs.Words.{◌||◌, ◌==◌, filter_map, nat_tests, or-true, Filter, Output, Semantics, takes, stored_of, same_unit}
 use Rattle.nf_net.proofs.Words.{same_unit_equiv, Msg, Note, instance_node, Phase, MoveState, Move, InstanceState, instance_step, Network, queue_at, Each}
 use Rattle.nf_net.proofs.Words.{each-append, behind_nil, Open, find_op, none_mine, where_two, Any, New, ShareMsg, olds, moves_of, member_step, seeing, Where}
-use Rattle.nf_net.proofs.Words.{head_none, Config, Node, is_begun, IsInput, order_numbered, installs_in, owner, owner_after, first_owner, unit_numbered}
+use Rattle.nf_net.proofs.Words.{head_none, Config, Node, is_begun, order_numbered, installs_in, owner, owner_after, first_owner, unit_numbered}
 use Rattle.nf_net.proofs.Words.{has_begun-append, Sees, is_whole, unit_fits, takes_whole, takes_same, Given, place, S, A, Scene, IsTaken, IsInstanceAt, Joined}
 use Rattle.nf_net.proofs.Words.{came_by, outline_phase, ran_in, is_sys, installed_same, installed_quiet, Stands, In_first, In_second, stands, IsQuiet}
 use Rattle.nf_net.proofs.Words.{instance_quiet, AreUnprocessed, RanAs, Seen, Unseen, ran_as, ran_any, given, all_fit, but_shares, move_apart, WhereAll}
-use Rattle.nf_net.proofs.Words.{Apart_from_shares, Under_share, Unit, Answer}
+use Rattle.nf_net.proofs.Words.{Apart_from_shares, Under_share, Unit, Answer, Setting}
 use Rattle.std.specs.FinMap as finite
 use Rattle.std.proofs.lemmas.List.{append_cancel_left}
 use Rattle.move_op.specs.Phases as phase
@@ -86,10 +86,11 @@ module _ {R : Type 0} (f : Semantics R) (c : Config) (items : List Msg) where
   pub quiet_leaves : (filter : Filter) (i : ℕ) (log notes : List Note) → installs_in notes ≡ [] → AreUnprocessed notes → Leaves filter i log notes
   quiet_leaves filter i log notes same none u fits taken owned = (owner_stays u log notes same ∙ owned, unprocessed_at u i notes none)
 
-module _ {F R : Type 0} (f : Semantics R) (laws : FunctionLaws f) (c : Config) (items : List Msg) (is : IsInput f.kind c items) (n : ℕ)
-    (w : Network (Node F R) Msg Note) (j : Joined f (given f c items is) n w) where
+module _ {F R : Type 0} (setting : Setting F R) (n : ℕ) (w : Network (Node F R) Msg Note) (j : Joined setting.function (given setting) n w) where
+  open setting use {function as f, laws, config as c, items}
+
   abbrev g : Given
-  g = given f c items is
+  g = given setting
 
   abbrev scene : Scene F f g
   scene = record { nodes = j.nodes; world = j.world; log = w.log; input = queue_at w (at_node 0 0) }
@@ -125,7 +126,7 @@ module _ {F R : Type 0} (f : Semantics R) (laws : FunctionLaws f) (c : Config) (
           takes_it
 
       route : j.world.target u ≡ is_open.e.op.src
-      route = owner_goes f c items is n w j u fits (where_two (S f g) (is_sys f g.site g.packet) u (moves_of (S f g) (A f g) j.world) _ _ where_is)
+      route = owner_goes setting n w j u fits (where_two (S f g) (is_sys f g.site g.packet) u (moves_of (S f g) (A f g) j.world) _ _ where_is)
           ∙ ap instance_node owned ∙ ap (λ o. o.src) (sym is_open.sees.op)
 
       -- a change of the rules that the switch takes next
@@ -181,7 +182,7 @@ module _ {F R : Type 0} (f : Semantics R) (laws : FunctionLaws f) (c : Config) (
               (subst (λ v. none_mine (S f g) u v ≢ []) ran some)
           by_seen (New m) waits ran = absurd (not_shared m waits (subst (λ v. none_mine (S f g) u v ≢ []) ran some) (j.shown_is.every.unit u))
 
-          node_is : RanAs f laws g (all_fit f c items is) own message → k ≡ is_open.e.op.src
+          node_is : RanAs f laws g (all_fit setting) own message → k ≡ is_open.e.op.src
           node_is (Unseen none) = absurd (behind_nil stood.front number stood.back (sym (sym none ∙ stood.whole)))
           node_is (Seen a shown_as ran) = by_seen a (is_taken.head not_input a shown_as)
               (ran ∙ ap (λ x. ran_any f g x own.table.standby a) at.outline_is ∙ ap (λ t. ran_any f g (j.world.inst k) t a) at.standby_is)
@@ -190,7 +191,7 @@ module _ {F R : Type 0} (f : Semantics R) (laws : FunctionLaws f) (c : Config) (
         one_at before after (Note.Processed number i output) e = λ mine.
             let quiet = each_there_is before after number i output e in
             let node = node_is before after number i output e mine
-            (ran_as f laws g (all_fit f c items is) k own j.world (omega arith) at p y message is_taken.label) in
+            (ran_as f laws g (all_fit setting) k own j.world (omega arith) at p y message is_taken.label) in
             let source = ap (λ o. o.src) is_open.sees.op in
             let index = at.number in
             omega (arith, quiet, node, source, index)

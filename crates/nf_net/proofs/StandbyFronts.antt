@@ -2,9 +2,9 @@
 -- one; and what sees more in the whole world that shows it has seen a front that goes on from the older.
 use Rattle.nf_net.proofs.Words.{◌≡◌, ℕ, ◌<◌, ◌≤◌, true, false, Option, Some, None, List, [], ◌∷◌, ◌++◌, length, refl, sym, ap, ◌∙◌, subst, arith, if◌then◌else◌}
 use Rattle.nf_net.proofs.Words.{nat_lt, slice_get, nat_tests, slice_get-get_or, slice_get_past, Semantics, kept_after, is_transport, Msg, Note, instance_node}
-use Rattle.nf_net.proofs.Words.{Network, Ran, done_u, ran_of, packets_done, live_front, fold_packets, Sees_more, Config, Node, packet_numbered, IsInput}
+use Rattle.nf_net.proofs.Words.{Network, Ran, done_u, ran_of, packets_done, live_front, fold_packets, Sees_more, Config, Node, packet_numbered}
 use Rattle.nf_net.proofs.Words.{dones_in, IsFront, processed_of, live_in, live_at, standby_in, standby_at, done-append, is_sys, Given, S, A, by_node, came_by}
-use Rattle.nf_net.proofs.Words.{Scene, AreShown, IsInstanceAt, Joined, went_same, given, Unit, Instance, split}
+use Rattle.nf_net.proofs.Words.{Scene, AreShown, IsInstanceAt, Joined, went_same, given, Unit, Instance, split, Setting}
 use Rattle.std.specs.FinMap as finite
 use Rattle.std.proofs.lemmas.List.Sums.{fold-append}
 use Rattle.proof_machines.proofs.share.Share as share
@@ -70,20 +70,22 @@ module _ {R : Type 0} (f : Semantics R) (c : Config) (items : List Msg) where
       (more.0, ap kept_of (sym h.whole) ∙ fold-append (λ k p. kept_after f c.site k (packet_numbered items p)) None before h.rest
       ∙ ap (λ k. fold f c items k h.rest) e ∙ more.1)
 
-module _ {R : Type 0} (f : Semantics R) (c : Config) (items : List Msg) (is : IsInput f.kind c items) where
+module _ {F R : Type 0} (setting : Setting F R) where
+  open setting use {function as f, config as c, items}
+
   abbrev g : Given
-  g = given f c items is
+  g = given setting
 
   -- the same of what the whole world has done
   to_front : (xs ys : List Ran) → stages.IsFront xs ys → IsFront (packets xs) (packets ys)
   to_front xs ys h = let p = front_packets xs ys h in record { rest = p.0; whole = sym p.1 }
 
   to_kept : (seen : List Ran) (r : Option R) → r ≡ share.runs (S f g).F None seen → fold f c items None (packets seen) ≡ r
-  to_kept seen r h = fold_is f c items is None (packets seen) ∙ sym (fold_packets (S f g).F None seen) ∙ sym h
+  to_kept seen r h = fold_is setting None (packets seen) ∙ sym (fold_packets (S f g).F None seen) ∙ sym h
 
   module _ (u : Unit) (log : List Note) (ds : List (ℕ × ℕ)) (at : ds ≡ by_node f g (dones_in log)) where
     went_is : packets (ran_of (S f g) (A f g) u ds) ≡ processed_of f c items u log
-    went_is = packets_done (S f g) (A f g) u ds ∙ ap (done_u (S f g) u) at ∙ went_same f c items is u (dones_in log)
+    went_is = packets_done (S f g) (A f g) u ds ∙ ap (done_u (S f g) u) at ∙ went_same setting u (dones_in log)
 
     within_log : (seen : List Ran) → stages.IsFront seen (ran_of (S f g) (A f g) u ds) → IsFront (packets seen) (processed_of f c items u log)
     within_log seen h = subst (λ all. IsFront (packets seen) all) went_is (to_front seen (ran_of (S f g) (A f g) u ds) h)
@@ -103,7 +105,7 @@ module _ {R : Type 0} (f : Semantics R) (c : Config) (items : List Msg) (is : Is
       within = within_log h.since h.within;
     }
 
-  module _ {F : Type 0} (n : ℕ) where
+  module _ (n : ℕ) where
     -- what stands by at an instance
     pub instance_front : (x : Scene F f g) → AreShown f g n x → (k : ℕ) → IsInstanceAt f g k (x.nodes.instance k) x.world → (u : Unit)
         → IsOfFront f c items (processed_of f c items u x.log) (finite.get (x.nodes.instance k).table.standby u)

@@ -1,7 +1,7 @@
 -- In every run each record that stands by is that of a front of what was processed of its unit, and the front never gets shorter.
-use Rattle.nf_net.proofs.Words.{◌≡◌, ℕ, ◌+◌, ◌≤◌, ◌⊎◌, inl, inr, List, [], ◌∷◌, ◌++◌, length, length-append, refl, sym, ap, ◌∙◌, subst, arith, Global}
-use Rattle.nf_net.proofs.Words.{FunctionLaws, Semantics, Msg, Note, Choice, Network, IsRun, run, world_next, run_more, Config, Node, most_counted, IsInput}
-use Rattle.nf_net.proofs.Words.{course_of, job_of, node_step, node_ready, IsFront, processed_of, StandsBy, started_with, node_of, Unit, Standbys, run_beside}
+use Rattle.nf_net.proofs.Words.{◌≡◌, ℕ, ◌+◌, ◌≤◌, ◌⊎◌, inl, inr, List, [], ◌∷◌, ◌++◌, length, length-append, refl, sym, ap, ◌∙◌, subst, arith, Msg, Note}
+use Rattle.nf_net.proofs.Words.{Choice, Network, world_next, run_more, Node, most_counted, course_of, job_of, node_step, IsFront, processed_of, StandsBy}
+use Rattle.nf_net.proofs.Words.{node_of, Unit, Standbys, run_beside, Setting, start, IsCourse, world_of}
 use Rattle.nf_net.proofs.CopyRuns.{run_copying}
 use Rattle.nf_net.proofs.CountedRoom.{room}
 use Rattle.nf_net.proofs.RunWords.{next_in_run, runs_joined, RunStep, run_keeps, after_world}
@@ -23,10 +23,11 @@ fronts_of_more {X} (b ∷ bs) after (y ∷ xs) x e =
       | inr more ↦ inr (more.0, rw heads (ap (λ zs. y ∷ zs) more.1))
     ]
 
-module _ (F : Type 0) {R : Type 0} (f : Semantics R) (laws : FunctionLaws f) (alloc : Global) (c : Config) (items : List Msg)
-    (is : IsInput f.kind c items) where
-  abbrev start : Network (Node F R) Msg Note
-  start = started_with alloc c items
+module _ {F R : Type 0} (setting : Setting F R) where
+  open setting use {function as f, config as c, items}
+
+  abbrev first : Network (Node F R) Msg Note
+  first = start setting
 
   abbrev Stood : Network (Node F R) Msg Note → ℕ → Unit → Type 0
   Stood = StandsBy (job_of f c items)
@@ -36,19 +37,19 @@ module _ (F : Type 0) {R : Type 0} (f : Semantics R) (laws : FunctionLaws f) (al
   NoShorter w i u earlier = (now : Stood w i u) × IsFront earlier now.front
 
   abbrev NeverBack : List Choice → Network (Node F R) Msg Note → Type 0
-  NeverBack cs w = (before later : List Choice) (i : ℕ) (u : Unit) (earlier : Stood (run (node_step f) before start) i u) → before ++ later ≡ cs
+  NeverBack cs w = (before later : List Choice) (i : ℕ) (u : Unit) (earlier : Stood (world_of setting before) i u) → before ++ later ≡ cs
       → NoShorter w i u earlier.front
 
   -- one choice further
   behind_next : (w v : Network (Node F R) Msg Note) (notes : List Note) → v.log ≡ w.log ++ notes
-      → ((u : Unit) → length (processed_of f c items u v.log) ≤ most_counted) → GoesOn F f laws c items is w v
+      → ((u : Unit) → length (processed_of f c items u v.log) ≤ most_counted) → GoesOn setting w v
       → (i : ℕ) (u : Unit) (earlier : List ℕ) → NoShorter w i u earlier → NoShorter v i u earlier
   behind_next w v notes log few goes i u earlier h =
       let it = goes i u in
       let all = processed_of f c items u v.log in
       let was : IsFront h.0.front all = subst (λ l. IsFront h.0.front (processed_of f c items u l)) (sym log) (subst (λ l. IsFront h.0.front l)
       (sym (went_more f c items u w.log notes)) (front_more h.0.front (processed_of f c items u w.log) (processed_of f c items u notes) h.0.is_front)) in
-      let same : h.0.front ≡ it.before = one_front f laws c items is all (few u) h.0.front it.before was
+      let same : h.0.front ≡ it.before = one_front setting all (few u) h.0.front it.before was
       (front_trans it.before it.since all it.behind it.within) (h.0.folds ∙ sym h.0.there ∙ sym it.old_is) in
       let further : IsFront h.0.front it.since = subst (λ xs. IsFront xs it.since) (sym same) it.behind in
       let now = still_some f c items h.0.front it.since h.0.kept further h.0.folds in (
@@ -65,42 +66,40 @@ module _ (F : Type 0) {R : Type 0} (f : Semantics R) (laws : FunctionLaws f) (al
   still w i u v same earlier = subst (λ x. NoShorter x i u earlier.front) same (itself v i u earlier)
 
   -- a choice that is taken
-  module _ (cs : List Choice) (ok : IsRun node_ready (node_step f) cs start) (d : Choice)
-      (s : RunStep F f laws alloc c items is (run (node_step f) cs start) d) where
+  module _ (cs : List Choice) (ok : IsCourse setting cs) (d : Choice) (s : RunStep setting (world_of setting cs) d) where
     abbrev w : Network (Node F R) Msg Note
-    w = run (node_step f) cs start
+    w = world_of setting cs
 
     abbrev v : Network (Node F R) Msg Note
     v = world_next (node_step f) w d
 
     few : (u : Unit) → length (processed_of f c items u v.log) ≤ most_counted
-    few = room F f laws alloc c items is v (next_in_run F f laws alloc c items is w d s (runs_joined F f laws alloc c items is cs ok).in_turn)
+    few = room setting v (next_in_run setting w d s (runs_joined setting cs ok).in_turn)
 
     next_stands : NeverBack cs w → NeverBack (cs ++ d ∷ []) v
     next_stands h before later i u earlier whole = elim (fronts_of_more before later cs d whole) as (λ _. NoShorter v i u earlier.front) [
-      | inl all ↦ still v i u (run (node_step f) before start)
-          (ap (λ xs. run (node_step f) xs start) all ∙ sym (run_more (node_step f) cs d start w refl)) earlier
+      | inl all ↦ still v i u (world_of setting before) (ap (λ xs. world_of setting xs) all ∙ sym (run_more (node_step f) cs d first w refl)) earlier
       | inr part ↦ behind_next w v (node_step f (node_of s.runs.joined.nodes d.node) d.port s.taking.message).notes s.log few
-          (goes_on F f laws c items is w d s.taking s.runs.joined s.runs.beside few) i u earlier.front (h before part.0 i u earlier part.1)
+          (goes_on setting w d s.taking s.runs.joined s.runs.beside few) i u earlier.front (h before part.0 i u earlier part.1)
     ]
 
-  never_back : (cs : List Choice) → IsRun node_ready (node_step f) cs start → NeverBack cs (run (node_step f) cs start)
-  never_back = run_keeps F f laws alloc c items is NeverBack never next_stands
+  never_back : (cs : List Choice) → IsCourse setting cs → NeverBack cs (world_of setting cs)
+  never_back = run_keeps setting NeverBack never next_stands
     where
-      never : NeverBack [] start
-      never [] later i u earlier e = itself start i u earlier
+      never : NeverBack [] first
+      never [] later i u earlier e = itself first i u earlier
       never (b ∷ before) later i u earlier e = cc
 
   -- so every run keeps what is promised of the records that stand by
-  pub standbys : (cs : List Choice) → IsRun node_ready (node_step f) cs start → Standbys (job_of f c items) (course_of start cs)
+  pub standbys : (cs : List Choice) → IsCourse setting cs → Standbys (job_of f c items) (course_of first cs)
   standbys cs run_is =
       let h = never_back cs run_is in
       record {
-        fronts = λ i u kept there. (let it = stands_front f c items is (length c.names + 2) (run (node_step f) cs start)
-            (after_world F f laws alloc c items is cs run_is).1 (run_beside F f laws alloc c items is cs run_is).joined i u in
+        fronts = λ i u kept there. (let it = stands_front setting (length c.names + 2) (world_of setting cs)
+            (after_world setting cs run_is).1 (run_beside setting cs run_is).joined i u in
             record { front = it.front; kept = kept; there = there; is_front = it.is_front; folds = it.folds ∙ there });
         never_back = h;
-        copied = λ copy of done. (let it = (run_copying F f laws alloc c items is cs run_is).found copy of done in record {
+        copied = λ copy of done. (let it = (run_copying setting cs run_is).found copy of done in record {
           before = it.by.before;
           later = it.by.later;
           whole = it.by.whole;

@@ -1,13 +1,13 @@
 -- A choice of a run leaves what stands by at each instance, or lets it see more of what was processed of its unit: an instance's step by its message.
 use Rattle.nf_net.proofs.Words.{◌≡◌, ◌≢◌, ℕ, zero, suc, ◌+◌, ◌<◌, ◌≤◌, Bool, true, false, Option, Some, None, List, [], ◌∷◌, ◌++◌, length, get_or, refl, sym}
 use Rattle.nf_net.proofs.Words.{ap, ◌∙◌, subst, arith, ◌&&◌, ◌==◌, nat_lt, slice_get, filter_map, nat_tests, Decides-eqb, slice_get-get_or, slice_get_past}
-use Rattle.nf_net.proofs.Words.{Filter, Chunk, units_total, Fits, newest, FunctionLaws, Semantics, either, newest_of, each_newest, FullCell, Msg, Note}
+use Rattle.nf_net.proofs.Words.{Filter, Chunk, units_total, Fits, newest, Semantics, either, newest_of, each_newest, FullCell, Msg, Note}
 use Rattle.nf_net.proofs.Words.{instance_node, InstanceState, instance_step, Choice, Network, queue_at, world_next, at, Takes, Outcome, taken_outcome, Taking}
-use Rattle.nf_net.proofs.Words.{EachOn, record_at, New, ShareMsg, Shared_on, S_sync, member_step, ran_of, Sees_more, Config, Node, most_counted, IsInput}
+use Rattle.nf_net.proofs.Words.{EachOn, record_at, New, ShareMsg, Shared_on, S_sync, member_step, ran_of, Sees_more, Node, most_counted}
 use Rattle.nf_net.proofs.Words.{dones_in, node_step, node_ready, processed_of, standby_in, standby_at, done-append, number, entries, ran_in, is_sys, is_sharing}
 use Rattle.nf_net.proofs.Words.{standby_keeps, HasBeside, its_takes, its_taken, Given, place, chunks_good, Rows, by_message, S, A, shown, by_node, came_by}
 use Rattle.nf_net.proofs.Words.{node_of, Genuine, AreGoodChunks, Scene, IsInstanceAt, AreShown, IsTaken, Joined, by_node-append, given, all_fit, Unit, Mark}
-use Rattle.nf_net.proofs.Words.{records_of, Instance, split}
+use Rattle.nf_net.proofs.Words.{records_of, Instance, split, Setting}
 use Rattle.std.specs.FinMap as finite
 use Rattle.instance_worker.specs.Instance.{Step, on_get}
 use Rattle.proof_machines.proofs.net.Net.{at_node}
@@ -48,14 +48,15 @@ module _ {R : Type 0} (f : Semantics R) where
   brought_is chunks u = finite.get-from_entries units_total (entries f chunks) u
 
 -- An instance's step.
-module _ {F R : Type 0} (f : Semantics R) (laws : FunctionLaws f) (c : Config) (items : List Msg) (is : IsInput f.kind c items)
-    (n : ℕ) (x : Scene F f (given f c items is)) (are : AreShown f (given f c items is) n x) (p y : ℕ)
-    (at : IsInstanceAt f (given f c items is) (suc (suc y)) (x.nodes.instance (suc (suc y))) x.world) where
+module _ {F R : Type 0} (setting : Setting F R) (n : ℕ) (x : Scene F setting.function (given setting)) (are : AreShown setting.function (given setting) n x)
+    (p y : ℕ) (at : IsInstanceAt setting.function (given setting) (suc (suc y)) (x.nodes.instance (suc (suc y))) x.world) where
+  open setting use {function as f, laws, config as c, items}
+
   abbrev g : Given
-  g = given f c items is
+  g = given setting
 
   abbrev fitting : (number : ℕ) → Fits g.site (g.packet number)
-  fitting = all_fit f c items is
+  fitting = all_fit setting
 
   abbrev k : ℕ
   k = suc (suc y)
@@ -96,7 +97,7 @@ module _ {F R : Type 0} (f : Semantics R) (laws : FunctionLaws f) (c : Config) (
   shows = record { inst = at.outline_is; standby = at.standby_is }
 
   held_front : (u : Unit) (notes : List Note) → IsOfFront f c items (all_of u notes) (finite.get i.table.standby u)
-  held_front u notes = later f c items u x.log notes (finite.get i.table.standby u) (instance_front f c items is n x are k at u)
+  held_front u notes = later f c items u x.log notes (finite.get i.table.standby u) (instance_front setting n x are k at u)
 
   same_sees : (u : Unit) (did : Step F R) → did.node.table.standby ≡ i.table.standby → Sees u did
   same_sees u did same = subst (λ t. SeesMore f c items (all_of u did.notes) (finite.get i.table.standby u) (finite.get t u)) (sym same)
@@ -121,7 +122,7 @@ module _ {F R : Type 0} (f : Semantics R) (laws : FunctionLaws f) (c : Config) (
       ∙ sym (ap (by_node f g) (done-append x.log did.notes) ∙ by_node-append f g (dones_in x.log) (dones_in did.notes)) in
       let sees = inst_sees (S f g) (A f g) (is_sys f g.site g.packet) u (is_sharing f g.site g.packet) x.world (came_by f g x.log u) are.every.global p k
       t.rest k0 k1 (are.every.unit u) (are.every.fronts u) (New seen) waits k in
-      sees_more f c items is u (x.log ++ did.notes) v.done log (finite.get i.table.standby u) (finite.get did.node.table.standby u)
+      sees_more setting u (x.log ++ did.notes) v.done log (finite.get i.table.standby u) (finite.get did.node.table.standby u)
       (subst (λ o. Sees_more (S f g) (A f g) (is_sys f g.site g.packet) u (ran_of (S f g) (A f g) u v.done) o (finite.get did.node.table.standby u))
       (sym (ap (λ r. finite.get r u) shows.standby))
       (subst (λ o. Sees_more (S f g) (A f g) (is_sys f g.site g.packet) u (ran_of (S f g) (A f g) u v.done) (finite.get (x.world.standby k) u) o)
@@ -143,7 +144,7 @@ module _ {F R : Type 0} (f : Semantics R) (laws : FunctionLaws f) (c : Config) (
   newest_sees : (u : Unit) (all : List ℕ) (held coming : Option R) → length all ≤ most_counted → IsOfFront f c items all held
       → IsOfFront f c items all coming → SeesMore f c items all held (either (newest f) held coming)
   newest_sees u all held coming few h b =
-      let it = longer f laws c items is all few h.front b.front h.is_front b.is_front in
+      let it = longer setting all few h.front b.front h.is_front b.is_front in
       record {
         before = h.front;
         since = it.front;
@@ -163,7 +164,7 @@ module _ {F R : Type 0} (f : Semantics R) (laws : FunctionLaws f) (c : Config) (
       let is_new : finite.get did.node.table.standby u ≡ either (newest f) held coming = ap (λ r. finite.get r u) new
       ∙ each_newest f i.table.standby (records_of f chunks) (newest_of f i.table.standby (records_of f chunks)) refl u in
       let of_chunks : IsOfFront f c items (processed_of f c items u x.log) coming = subst (λ o. IsOfFront f c items (processed_of f c items u x.log) o)
-      (sym (brought_is f chunks u)) (of_front f c items is u x.log x.world.done are.done_is (record_at u (entries f chunks)) (fronts u)) in
+      (sym (brought_is f chunks u)) (of_front setting u x.log x.world.done are.done_is (record_at u (entries f chunks)) (fronts u)) in
       subst (λ o. SeesMore f c items (all_of u did.notes) held o) (sym is_new)
       (newest_sees u (all_of u did.notes) held coming room (held_front u did.notes) (later f c items u x.log did.notes coming of_chunks))
 
@@ -190,9 +191,11 @@ module _ {F R : Type 0} (f : Semantics R) (laws : FunctionLaws f) (c : Config) (
   instance_sees u m t = by_message f g (Now u) p y (rows u) m t.label t
 
 -- A choice of a run.
-module _ (F : Type 0) {R : Type 0} (f : Semantics R) (laws : FunctionLaws f) (c : Config) (items : List Msg) (is : IsInput f.kind c items) where
+module _ {F R : Type 0} (setting : Setting F R) where
+  open setting use {function as f, laws, config as c, items}
+
   abbrev gn : Given
-  gn = given f c items is
+  gn = given setting
 
   abbrev nodes_count : ℕ
   nodes_count = length c.names + 2
@@ -228,7 +231,7 @@ module _ (F : Type 0) {R : Type 0} (f : Semantics R) (laws : FunctionLaws f) (c 
           subst (λ l. SeesMore f c items (processed_of f c items u l) (standby_at w i u) (standby_at v i u)) (sym left.log)
           (subst (λ o. SeesMore f c items (processed_of f c items u log) (standby_at w i u) o) (sym same)
           (sees_same f c items (processed_of f c items u log) (standby_at w i u) (later f c items u w.log (node_step f (node_of j.nodes k) p m).notes
-          (standby_at w i u) (stands_front f c items is nodes_count w takes.count j i u))))
+          (standby_at w i u) (stands_front setting nodes_count w takes.count j i u))))
 
     module _ (y : ℕ) (m : Msg) (takes : Takes (node_step f) nodes_count w (suc (suc y)) p (node_of j.nodes (suc (suc y))) m rest)
         (t : IsTaken f gn nodes_count x (record { node = suc (suc y); port = p; message = m }))
@@ -257,7 +260,7 @@ module _ (F : Type 0) {R : Type 0} (f : Semantics R) (laws : FunctionLaws f) (c 
           → SeesMore f c items (processed_of f c items u (v (suc (suc y)) m takes).log) (standby_at w y u) (standby_at (v (suc (suc y)) m takes) y u)
       own_sees u =
           let out = left (suc (suc y)) m takes in
-          let sees = instance_sees f laws c items is nodes_count x j.shown_is p y (j.shown_is.instances (suc (suc y)) (omega arith) takes.receiver) u m t
+          let sees = instance_sees setting nodes_count x j.shown_is p y (j.shown_is.instances (suc (suc y)) (omega arith) takes.receiver) u m t
           (its (suc (suc y)) m takes) (subst (λ l. length (processed_of f c items u l) ≤ most_counted) out.log (room u)) in
           subst (λ l. SeesMore f c items (processed_of f c items u l) (standby_at w y u) (standby_at (v (suc (suc y)) m takes) y u)) (sym out.log)
           (subst (λ o. SeesMore f c items (processed_of f c items u (w.log ++ did.notes)) o (standby_at (v (suc (suc y)) m takes) y u))
@@ -286,4 +289,4 @@ module _ (F : Type 0) {R : Type 0} (f : Semantics R) (laws : FunctionLaws f) (c 
       → HasBeside f gn nodes_count w j → ((u : Unit) → length (processed_of f c items u (world_next (node_step f) w d).log) ≤ most_counted)
       → GoesOn w (world_next (node_step f) w d)
   goes_on w d t j b room = each_goes w j b.kept.fronts d.port t.rest d.node t.message
-      (its_takes f laws gn (all_fit f c items is) nodes_count refl w d t j b) (its_taken f laws gn (all_fit f c items is) nodes_count refl w d t j b) room
+      (its_takes f laws gn (all_fit setting) nodes_count refl w d t j b) (its_taken f laws gn (all_fit setting) nodes_count refl w d t j b) room

@@ -2,12 +2,12 @@
 -- the log says of the unit's members is what the controller serves.
 use Rattle.nf_net.proofs.Words.{◌≡◌, ℕ, ◌+◌, ◌<◌, ◌≤◌, inl, inr, Bool, true, false, Option, Some, None, List, [], ◌∷◌, map, length, refl, sym, ap, ◌∙◌, subst}
 use Rattle.nf_net.proofs.Words.{arith, if◌then◌else◌, ◌&&◌, ◌||◌, ◌==◌, not, find, is_some, slice_index, slice_index_or, filter_map, length-map, Decides-eqb}
-use Rattle.nf_net.proofs.Words.{Filter, Flow, Semantics, takes, Msg, Note, instance_node, ShareState, home, SharePhase, Operation, Move, Copy, Share, place_of}
+use Rattle.nf_net.proofs.Words.{Filter, Flow, takes, Msg, Note, instance_node, ShareState, home, SharePhase, Operation, Move, Copy, Share, place_of}
 use Rattle.nf_net.proofs.Words.{Network, Stage, UnitShare, shape, where_two, found_each, unit_share, OpenShare, moves_of, ElsewhereHome, seeing, ItsShare}
-use Rattle.nf_net.proofs.Words.{its_share, WhereAll, Apart_from_shares, Under_share, Config, Node, is_begun, has_answered, is_share, answers_of}
-use Rattle.nf_net.proofs.Words.{times_installed, IsInput, order_numbered, packet_numbered, installs_in, first_owner, is_home, owner, members, member_for}
+use Rattle.nf_net.proofs.Words.{its_share, WhereAll, Apart_from_shares, Under_share, Node, is_begun, has_answered, is_share, answers_of}
+use Rattle.nf_net.proofs.Words.{times_installed, order_numbered, packet_numbered, installs_in, first_owner, is_home, owner, members, member_for}
 use Rattle.nf_net.proofs.Words.{unit_fits, takes_whole, takes_same, is_sys, Both, both, RealShare, real_share, Given, place, is_diverted, S, A, Joined, came_by}
-use Rattle.nf_net.proofs.Words.{AreApart, AllApart, names_known, given, Unit, Order, flow_of, Done, split}
+use Rattle.nf_net.proofs.Words.{AreApart, AllApart, names_known, given, Unit, Order, flow_of, Done, split, Setting}
 use Rattle.std.specs.Prelude.{◌%◌}
 use Rattle.std.specs.FinMap as finite
 use Rattle.std.proofs.lemmas.Nat.{mod_below}
@@ -38,10 +38,12 @@ both_so true false b h k = cc
 both_so false s b h k = cc
 
 -- Where a unit's packets go in a world of a run, by the log.
-module _ {F R : Type 0} (f : Semantics R) (c : Config) (items : List Msg) (is : IsInput f.kind c items) (n : ℕ) (w : Network (Node F R) Msg Note)
-    (j : Joined f (given f c items is) n w) (u : Unit) (fits : unit_fits f.kind u ≡ true) where
+module _ {F R : Type 0} (setting : Setting F R) (n : ℕ) (w : Network (Node F R) Msg Note) (j : Joined setting.function (given setting) n w) (u : Unit)
+    (fits : unit_fits setting.function.kind u ≡ true) where
+  open setting use {config as c, items}
+
   abbrev gt : Given
-  gt = given f c items is
+  gt = given setting
 
   -- packets go to the controller where the unit has members
   pub diverted_members : j.world.target u ≡ 1 → IsThere (members c items u w.log)
@@ -65,11 +67,12 @@ module _ {F R : Type 0} (f : Semantics R) (c : Config) (items : List Msg) (is : 
       by_test true at = absurd (omega (arith, at, two))
       by_test false at = at
 
-module _ {F R : Type 0} (f : Semantics R) (c : Config) (items : List Msg) (is : IsInput f.kind c items) (n : ℕ) (count_is : n ≡ length c.names + 2)
-    (w : Network (Node F R) Msg Note) (j : Joined f (given f c items is) n w) (apart : AllApart j.nodes.controller.operations)
-    (b : Busy (given f c items is) w) where
+module _ {F R : Type 0} (setting : Setting F R) (n : ℕ) (count_is : n ≡ length setting.config.names + 2) (w : Network (Node F R) Msg Note)
+    (j : Joined setting.function (given setting) n w) (apart : AllApart j.nodes.controller.operations) (b : Busy (given setting) w) where
+  open setting use {function as f, config as c, items}
+
   abbrev g : Given
-  g = given f c items is
+  g = given setting
 
   -- an open share of an order
   pub record IsOpenShare (op : ℕ) (ms : List (List ℕ)) (filter : Filter) : Type 0 where
@@ -259,7 +262,7 @@ module _ {F R : Type 0} (f : Semantics R) (c : Config) (items : List Msg) (is : 
       diverted_by (Apart_from_shares k none) =
           let two = where_two (S f g) (is_sys f g.site g.packet) u (moves_of (S f g) (A f g) j.world) _ _ k.is in
           let away = found_each (ElsewhereHome (S f g) u j.world.target) j.world.shares op seen.e k.untaken.homes seen.there its_own in
-          let same : seen.e.home ≡ j.world.target u = home_so ∙ sym (owner_goes f c items is n w j u fits two) in
+          let same : seen.e.home ≡ j.world.target u = home_so ∙ sym (owner_goes setting n w j u fits two) in
           let never : (seen.e.home == j.world.target u) ≡ true = (Decides-eqb seen.e.home (j.world.target u)).1 same in
           cc
       diverted_by (Under_share x before d k o m) =
@@ -271,7 +274,7 @@ module _ {F R : Type 0} (f : Semantics R) (c : Config) (items : List Msg) (is : 
           k.holds.target ∙ ap (λ d. if d then 1 else x.home) (serving_diverts (unit_share (S f g) (A f g) (seeing (S f g) (A f g) u x)) k.stage serving)
 
       pub set_up_installed : 1 ≤ times_installed op w.log
-      set_up_installed = by_members (diverted_members f c items is n w j u fits (diverted_by (j.shown_is.every.unit u)))
+      set_up_installed = by_members (diverted_members setting n w j u fits (diverted_by (j.shown_is.every.unit u)))
         where
           by_members : IsThere (members c items u w.log) → 1 ≤ times_installed op w.log
           by_members (There these e) =

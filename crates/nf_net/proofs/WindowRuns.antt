@@ -1,10 +1,10 @@
 -- Every run keeps the window, and a complete one has all cells at home.
 use Rattle.nf_net.proofs.Words.{◌≡◌, ℕ, zero, suc, ◌+◌, ◌≤◌, Bool, true, false, Some, List, [], ◌∷◌, length, length-append, get_or, refl, sym, ap, ◌∙◌, subst}
-use Rattle.nf_net.proofs.Words.{arith, ◌==◌, ◌&&◌, flat_map, Global, nat_tests, Decides-eqb, slice_get-get_or, FunctionLaws, Semantics, Msg, Note, SwitchState}
-use Rattle.nf_net.proofs.Words.{switch_step, Choice, Network, IsRun, is_done, reaches, run, world_next, at, Takes, taken_outcome, opening_weight, done_node}
-use Rattle.nf_net.proofs.Words.{done_weight, EachSent, weigh, total, sent_weight, total_after, Each, Config, Node, Switch, IsInput, arrivals_in, dones_in}
-use Rattle.nf_net.proofs.Words.{node_step, node_ready, node_ended, first_nodes, first_switch, started_with, on_links, AllHome, arrived-append, done-append}
-use Rattle.nf_net.proofs.Words.{given, all_labelled, Given, Label, Joined, node_of, run_beside}
+use Rattle.nf_net.proofs.Words.{arith, ◌==◌, ◌&&◌, flat_map, nat_tests, Decides-eqb, slice_get-get_or, Semantics, Msg, Note, SwitchState}
+use Rattle.nf_net.proofs.Words.{switch_step, Choice, Network, is_done, reaches, world_next, at, Takes, taken_outcome, opening_weight, done_node}
+use Rattle.nf_net.proofs.Words.{done_weight, EachSent, weigh, total, sent_weight, total_after, Each, Node, Switch, arrivals_in, dones_in}
+use Rattle.nf_net.proofs.Words.{node_step, node_ended, first_nodes, first_switch, on_links, AllHome, arrived-append, done-append}
+use Rattle.nf_net.proofs.Words.{given, all_labelled, Given, Label, Joined, node_of, run_beside, Setting, start, IsCourse, world_of}
 use Rattle.net_world.specs.Window.{Window, homeward, switch_in, switch_of}
 use Rattle.nf_net.proofs.answers.CreditCounts.{credit, no_credit_from, no_credit_to, none_sent, instance_is}
 use Rattle.nf_net.proofs.answers.ArrivalNotes.{controller_notes_none}
@@ -114,48 +114,46 @@ weigh_links (ms ∷ links) =
 pub items_none : {R : Type 0} (f : Semantics R) (g : Given) (items : List Msg) → Each (Label f g 0 0) items → weigh credit items ≡ 0
 items_none f g = weighs_nothing (Label f g 0 0) credit (λ m. no_credit_from f g 0 0 m (omega arith))
 
-module _ (F : Type 0) {R : Type 0} (f : Semantics R) (laws : FunctionLaws f) (alloc : Global) (c : Config) (items : List Msg)
-    (is : IsInput f.kind c items) where
-  abbrev start : Network (Node F R) Msg Note
-  start = started_with {F = F} {R = R} alloc c items
+module _ {F R : Type 0} (setting : Setting F R) where
+  open setting use {function as f, alloc, config as c, items}
 
-  window_at_start : InWindow c.window start
+  abbrev first : Network (Node F R) Msg Note
+  first = start setting
+
+  window_at_start : InWindow c.window first
   window_at_start = record {
     switch = first_switch c;
     there = λ d. refl;
     cells = refl;
     home = omega arith;
     balance = let none = opening_weight Note (first_nodes {F = F} {R = R} alloc c) items credit in
-        let given_none = items_none f (given f c items is) items (all_labelled f c items is) in omega (arith, none, given_none);
+        let given_none = items_none f (given setting) items (all_labelled setting) in omega (arith, none, given_none);
   }
 
-  pub in_window : (cs : List Choice) → IsRun node_ready (node_step f) cs start → InWindow c.window (run (node_step f) cs start)
-  in_window = run_keeps F f laws alloc c items is (λ _ w. InWindow c.window w) window_at_start
-      (λ ds ok d s. window_after f (given f c items is) (length c.names + 2) c.window
-      (run (node_step f) ds start) d.node d.port s.taking.message s.taking.rest s.runs.joined s.takes s.taken.label s.labels
-      (few_done f c items is (length c.names + 2) (run (node_step f) ds start) s.runs.joined))
+  pub in_window : (cs : List Choice) → IsCourse setting cs → InWindow c.window (world_of setting cs)
+  in_window = run_keeps setting (λ _ w. InWindow c.window w) window_at_start (λ ds ok d s. window_after f (given setting) (length c.names + 2) c.window
+      (world_of setting ds) d.node d.port s.taking.message s.taking.rest s.runs.joined s.takes s.taken.label s.labels
+      (few_done setting (length c.names + 2) (world_of setting ds) s.runs.joined))
 
   -- cells go home on links alone
-  credits_are : (cs : List Choice) (run_is : IsRun node_ready (node_step f) cs start)
-      → total credit (run (node_step f) cs start) ≡ length (on_links (run (node_step f) cs start) homeward)
+  credits_are : (cs : List Choice) (run_is : IsCourse setting cs) → total credit (world_of setting cs) ≡ length (on_links (world_of setting cs) homeward)
   credits_are cs run_is =
-      let w = run (node_step f) cs start in
-      let j = (run_beside F f laws alloc c items is cs run_is).joined in
-      let count = (after_world F f laws alloc c items is cs run_is).1 in
-      let none = items_none f (given f c items is) w.input (j.labels 0 0 (omega (arith, count)) (omega (arith, count))) in
+      let w = world_of setting cs in
+      let j = (run_beside setting cs run_is).joined in
+      let count = (after_world setting cs run_is).1 in
+      let none = items_none f (given setting) w.input (j.labels 0 0 (omega (arith, count)) (omega (arith, count))) in
       let links = weigh_links w.links in
       omega (arith, none, links)
 
-  switch_there : (cs : List Choice) (run_is : IsRun node_ready (node_step f) cs start)
-      → switch_of (run (node_step f) cs start) ≡ Some (in_window cs run_is).switch
+  switch_there : (cs : List Choice) (run_is : IsCourse setting cs) → switch_of (world_of setting cs) ≡ Some (in_window cs run_is).switch
   switch_there cs run_is =
       let h = in_window cs run_is in
-      let count = (after_world F f laws alloc c items is cs run_is).1 in
-      ap switch_in (slice_get-get_or (run (node_step f) cs start).nodes 0 (Switch h.switch) (omega (arith, count)))
+      let count = (after_world setting cs run_is).1 in
+      ap switch_in (slice_get-get_or (world_of setting cs).nodes 0 (Switch h.switch) (omega (arith, count)))
       ∙ ap (λ d. switch_in (Some d)) (h.there (Switch h.switch))
 
   -- every run keeps the window
-  pub window_kept : (cs : List Choice) → IsRun node_ready (node_step f) cs start → Window c (run (node_step f) cs start)
+  pub window_kept : (cs : List Choice) → IsCourse setting cs → Window c (world_of setting cs)
   window_kept cs run_is =
       let h = in_window cs run_is in
       record {
@@ -163,16 +161,15 @@ module _ (F : Type 0) {R : Type 0} (f : Semantics R) (laws : FunctionLaws f) (al
         switch = h.switch;
         switch_is = switch_there cs run_is;
         cells = h.home;
-        balance = h.balance ∙ ap (λ k. length (arrivals_in (run (node_step f) cs start).log) + k) (credits_are cs run_is);
+        balance = h.balance ∙ ap (λ k. length (arrivals_in (world_of setting cs).log) + k) (credits_are cs run_is);
       }
 
   -- and a complete one has all cells at home
-  pub all_home : (cs : List Choice) → IsRun node_ready (node_step f) cs start → is_done node_ended (run (node_step f) cs start) ≡ true
-      → AllHome c (run (node_step f) cs start)
+  pub all_home : (cs : List Choice) → IsCourse setting cs → is_done node_ended (world_of setting cs) ≡ true → AllHome c (world_of setting cs)
   all_home cs run_is complete =
-      let w = run (node_step f) cs start in
+      let w = world_of setting cs in
       let h = in_window cs run_is in
-      let count = (after_world F f laws alloc c items is cs run_is).1 in
+      let count = (after_world setting cs run_is).1 in
       let ended : node_ended {F = F} {R = R} (Switch h.switch) ≡ true = ap node_ended (sym (h.there (Switch h.switch)))
       ∙ done_node node_ended w complete 0 (Switch h.switch) (omega (arith, count)) in
       let landed : h.switch.flying ≡ 0 = grounded h.switch.closed h.switch.flying ended in

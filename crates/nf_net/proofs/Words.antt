@@ -205,6 +205,7 @@ pub use Rattle.proof_outlines.proofs.joined.PlaceNotes.{uninstalled_unprocessed,
 pub use Rattle.proof_outlines.proofs.joined.PlaceNotes.{AreUnprocessed, is_uninstalled}
 pub use Rattle.proof_outlines.proofs.joined.RunUnits.{RanAs, Seen, Unseen, ran_as, ran_any}
 pub use Rattle.proof_outlines.proofs.joined.RunsJoined.{Runs, run_beside, same_times, done_same, start_world, runs_at_start, runs_next, went_same}
+pub use Rattle.proof_outlines.proofs.joined.Setting.{Setting, setting_of, start, IsCourse, world_of}
 pub use Rattle.proof_outlines.proofs.joined.ShareBegins.{names_known}
 pub use Rattle.proof_outlines.proofs.joined.StartJoined.{given, count_at_start, genuine, all_fit, all_labelled}
 pub use Rattle.proof_outlines.proofs.outline.ControlOutline.{Sees}

@@ -42,6 +42,7 @@ pub mod RisingRuns
 pub mod RuleChanges
 pub mod RunUnits
 pub mod RunsJoined
+pub mod Setting
 pub mod ShareBegins
 pub mod ShareRows
 pub mod ShareSteps

@@ -1,6 +1,5 @@
 -- The answer to each command of a completed run has its true cause, in the words of the headline.
-use Rattle.std.proofs.Common.{◌≡◌, ℕ, ◌+◌, ◌<◌, Bool, true, false, not, ◌&&◌, ◌||◌, Option, Some, None, List, [], ◌∷◌, map}
-use Rattle.std.proofs.Common.{refl, sym, ap, ◌∙◌, subst, arith}
+use Rattle.std.proofs.Common.{◌≡◌, ℕ, ◌+◌, ◌<◌, Bool, true, false, not, ◌&&◌, ◌||◌, Option, Some, None, List, [], ◌∷◌, map, refl, sym, ap, ◌∙◌, subst, arith}
 use Rattle.std.specs.Prelude.{◌==◌, nat_lt, option_map, option_and_then, if◌then◌else◌, slice_index, slice_index_or}
 use Rattle.std.specs.List.{AllByRecursion, AllZip, list_any, position_or_len}
 use Rattle.std.specs.Option.{option_map_or}
@@ -44,6 +43,7 @@ use Rattle.run_headline.specs.Law.{IsCompleted, subject}
 use Rattle.run_headline.proofs.AnswerLines.{IsOnly, Line, answer_to, found_any, only, so_answered}
 use Rattle.run_headline.proofs.CommandOrder.{run_in_turn}
 use Rattle.run_headline.proofs.FoundNumbers.{IsFound, all_found}
+use Rattle.run_report.specs.proof_outlines.proofs.joined.Setting.{Setting, setting_of}
 
 -- what began before the first note of a command began
 began_before : (op k : ℕ) (log : List Note) → commands_noted.is_begun k (before_command op log) ≡ true → commands_noted.is_begun k log ≡ true
@@ -154,6 +154,9 @@ beside P there alone holds (c ∷ cs) (x ∷ xs) same all only =
 
 module _ {R : Type 0} (F : Type 0) (f : Semantics R) (laws : FunctionLaws f) (alloc : Global) (c : Config) (items : List Msg) (choices : List Choice)
     (is : IsCompleted F f alloc c items choices) where
+  abbrev setting : Setting F R
+  setting = setting_of setting.is_input
+
   abbrev w : Network (Node F R) Msg Note
   w = run (node_step f) choices (started_with alloc c items)
 
@@ -206,7 +209,7 @@ module _ {R : Type 0} (F : Type 0) (f : Semantics R) (laws : FunctionLaws f) (al
         let front = before_command op w.log in
         let one = meets_one what (keeps_off c.names orders k front) (orders k) cause.1.picked in
         let kept = and_parts (commands_noted.is_begun k front) _ one.keeps_is in
-        let low : k < op = run_in_turn F f laws alloc c items is.is_input choices is.is_run op k (answered_noted op w.log (answers.Overlap k) told) kept.0 in
+        let low : k < op = run_in_turn setting choices is.is_run op k (answered_noted op w.log (answers.Overlap k) told) kept.0 in
         let answer = answer_to w.log is.promises.answers.answered_once items is.answers k one.other one.order_is in
         let unrefused : is_of_begun answer.0 ≡ true = ap not (no_cause k one.other answer.0 one.order_is answer.1 (began_before op k w.log kept.0)) in
         let said : is_answered is_of_begun (by_number answer_in w.log) k ≡ true = so_answered is_of_begun answer.0 unrefused k w.log answer.1 in

@@ -1,8 +1,6 @@
 -- In every run commands begin and are refused in the order of their numbers: what began before the first note of a command has a lower number.
-use Rattle.std.proofs.Common.{◌≡◌, ℕ, zero, suc, ◌+◌, ◌<◌, ◌≤◌, true, false, List, [], ◌++◌, length}
-use Rattle.std.proofs.Common.{refl, sym, ap, ◌∙◌, subst, append-nil, inl, inr, arith}
+use Rattle.std.proofs.Common.{◌≡◌, ℕ, zero, suc, ◌+◌, ◌<◌, ◌≤◌, true, false, List, [], ◌++◌, length, refl, sym, ap, ◌∙◌, subst, append-nil, inl, inr, arith}
 use Rattle.std.specs.Prelude.{if◌then◌else◌, ◌||◌, ◌==◌, ◌⊎◌, nat_lt}
-use Rattle.std.specs.declared.alloc.Global.{Global}
 use Rattle.std.specs.FinMap as finite
 use Rattle.std.proofs.lemmas.Bool.Decides.{nat_tests, Decides-ltb}
 use Rattle.nf_function.specs.Records.{Laws as FunctionLaws}
@@ -12,7 +10,7 @@ use Rattle.nf_msgs.specs.declared.msg.Msg.{Msg}
 use Rattle.nf_msgs.specs.declared.msg.Msg.TheVariants as msg
 use Rattle.nf_msgs.specs.declared.note.Note.{Note}
 use Rattle.actor_net.specs.declared.choice.Choice.{Choice}
-use Rattle.actor_net.specs.Network.{Network, IsRun, Stepped, run, world_next}
+use Rattle.actor_net.specs.Network.{Network, Stepped, world_next}
 use Rattle.actor_net.proofs.EnabledChoices.{at}
 use Rattle.actor_net.proofs.LinkLemmas.{neither}
 use Rattle.actor_net.proofs.RunInduction.{Taking, run_induction}
@@ -21,12 +19,9 @@ use Rattle.run_report.specs.proof_machines.proofs.unit.Labels.{Each}
 use Rattle.run_report.specs.proof_machines.proofs.net.Waits.{Rising}
 use Rattle.ctrl_node.specs.Controller.{controller_step}
 use Rattle.switch_node.specs.Switch.{switch_step}
-use Rattle.net_world.specs.declared.config.Config.{Config}
 use Rattle.net_world.specs.declared.node.Node.{Node}
 use Rattle.net_world.specs.Commands.{is_begun, before_command, has_answered}
-use Rattle.net_world.specs.Input.{IsInput}
 use Rattle.net_world.specs.Nodes.{node_ready, node_step}
-use Rattle.net_world.specs.Start.{started_with}
 use Rattle.net_world.proofs.LogLemmas.{has_begun-append, has_answered-append}
 use Rattle.run_report.specs.proof_outlines.proofs.joined.Given.{Given}
 use Rattle.run_report.specs.proof_outlines.proofs.joined.Joined.{Joined, Label, count, node_of}
@@ -40,6 +35,7 @@ use Rattle.run_report.specs.nf_net.proofs.answers.CommandPromises.{start_busy}
 use Rattle.run_report.specs.nf_net.proofs.answers.LinePicks.{at_controller as way_at_controller}
 use Rattle.std.proofs.lemmas.Bool.{and_parts}
 use Rattle.run_headline.proofs.CommandNotes.{OfThese, step_asked, step_open}
+use Rattle.run_report.specs.proof_outlines.proofs.joined.Setting.{Setting, start, IsCourse, world_of}
 
 -- what began before the first note of a command that is noted has a lower number
 abbrev pub InTurn : List Note → Type 0
@@ -160,26 +156,23 @@ module _ {F R : Type 0} (f : Semantics R) (g : Given) (n : ℕ) (count_is : n �
       let is : t.node ≡ node_of j.nodes c.node = sym (t.takes.node_is t.node) ∙ j.nodes_are c.node t.takes.receiver t.node in
       in_turn_after w j b h c.port t.message t.rest c.node (subst (λ y. Takes step n w c.node c.port y t.message t.rest) is t.takes)
 
-module _ (F : Type 0) {R : Type 0} (f : Semantics R) (laws : FunctionLaws f) (alloc : Global) (c : Config) (items : List Msg)
-    (is : IsInput f.kind c items) where
+module _ {F R : Type 0} (setting : Setting F R) where
+  open setting use {function as f, config as c}
+
   abbrev first : Network (Node F R) Msg Note
-  first = started_with {F = F} {R = R} alloc c items
+  first = start setting
 
   abbrev AllOf : Network (Node F R) Msg Note → Type 0
-  AllOf w = Runs F f laws alloc c items is w × (Busy (given f c items is) w × InTurn w.log)
+  AllOf w = Runs setting w × (Busy (given setting) w × InTurn w.log)
 
   -- of every run
-  pub run_in_turn : (cs : List Choice) → IsRun node_ready (node_step f) cs first → InTurn (run (node_step f) cs first).log
+  pub run_in_turn : (cs : List Choice) → IsCourse setting cs → InTurn (world_of setting cs).log
   run_in_turn cs run_is = it.1.1
     where
-      it : AllOf (run (node_step f) cs first)
-      it = run_induction node_ready (node_step f) (length c.names + 2) (λ _ w. AllOf w) first
-          (λ _ w k next h. (
-            runs_next F f laws alloc c items is w k next.taking h.0,
-            (
-              busy_next f (given f c items is) (length c.names + 2) refl w k next.taking h.0.joined h.1.0,
-              in_turn_next f (given f c items is) (length c.names + 2) refl w k next.taking h.0.joined h.1.0 h.1.1,
+      it : AllOf (world_of setting cs)
+      it = run_induction node_ready (node_step f) (length c.names + 2) (λ _ w. AllOf w) first (λ _ w k next h. ( runs_next setting w k next.taking h.0,
+            ( busy_next f (given setting) (length c.names + 2) refl w k next.taking h.0.joined h.1.0,
+              in_turn_next f (given setting) (length c.names + 2) refl w k next.taking h.0.joined h.1.0 h.1.1,
             ),
           ))
-          (start_world F f laws alloc c items is) (count_at_start F f alloc c items is)
-          (runs_at_start F f laws alloc c items is, (start_busy F f laws alloc c items is, λ op j noted. cc)) cs run_is
+          (start_world setting) (count_at_start setting) (runs_at_start setting, (start_busy setting, λ op j noted. cc)) cs run_is

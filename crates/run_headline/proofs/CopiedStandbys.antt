@@ -1,7 +1,6 @@
 -- What each copy that is done took stands by at its destination at the end of a completed run, or what is newer; with all else that stands by.
-use Rattle.std.proofs.Common.{◌≡◌, ℕ, ◌+◌, ◌≤◌, Bool, true, false, ◌||◌, not, cond, Option, Some, None}
-use Rattle.std.proofs.Common.{List, [], ◌∷◌, ◌++◌, append_assoc, length, length-append, map, take}
-use Rattle.std.proofs.Common.{refl, sym, ap, ◌∙◌, subst, arith}
+use Rattle.std.proofs.Common.{◌≡◌, ℕ, ◌+◌, ◌≤◌, Bool, true, false, ◌||◌, not, cond, Option, Some, None, List, [], ◌∷◌, ◌++◌, append_assoc, length}
+use Rattle.std.proofs.Common.{length-append, map, take, refl, sym, ap, ◌∙◌, subst, arith}
 use Rattle.std.specs.Prelude.{if◌then◌else◌, ◌==◌, filter, filter_map, find, is_some, option_map, option_to_list, unwrap_or, zip}
 use Rattle.std.specs.List.{AllByRecursion, before_first, list_any}
 use Rattle.std.specs.Option.{option_map_or}
@@ -61,6 +60,7 @@ use Rattle.run_headline.proofs.InstanceLines.{done_unrefused, fronts, here, of, 
 use Rattle.run_headline.proofs.RecordsUnder.{under_name}
 use Rattle.run_headline.proofs.UnitOutputs.{IsThere, mine, part}
 use Rattle.run_headline.proofs.UnmovedUnits.{not_covered, owner_is}
+use Rattle.run_report.specs.proof_outlines.proofs.joined.Setting.{Setting, setting_of}
 
 -- The log before a note of what was given, and the lines of packets that were processed by then.
 module _ {X : Type 0} (p : X → Bool) where
@@ -130,6 +130,9 @@ both_known names a b none = by_places (place_of names a) (place_of names b) refl
 
 module _ {R : Type 0} (F : Type 0) (f : Semantics R) (laws : FunctionLaws f) (alloc : Global) (c : Config) (items : List Msg) (choices : List Choice)
     (is : IsCompleted F f alloc c items choices) where
+  abbrev setting : Setting F R
+  setting = setting_of setting.is_input
+
   abbrev first : Network (Node F R) Msg Note
   first = started_with alloc c items
 
@@ -197,7 +200,7 @@ module _ {R : Type 0} (F : Type 0) (f : Semantics R) (laws : FunctionLaws f) (al
     late : length (packets front) ≤ moment + c.window
     late =
         let came = copied.to_give.came front behind k whole refl in
-        let few = (every_run F f laws alloc c items is.is_input copied.before its_run).window.under_way in
+        let few = (every_run setting copied.before its_run).window.under_way in
         omega (arith, came, few)
 
     log_is : (rest : List Note) × (w.log ≡ given_at.log ++ rest)
@@ -254,7 +257,7 @@ module _ {R : Type 0} (F : Type 0) (f : Semantics R) (laws : FunctionLaws f) (al
       none_went [] none = refl
       none_went (p ∷ ps) none =
           let one : folds.fold f c items None (p ∷ []) ≡ Some (f.stepped c.site None (packet_numbered items p)).kept =
-          (let transport = (all_fit f c items is.is_input p).transport in rw transport refl) in
+          (let transport = (all_fit setting p).transport in rw transport refl) in
           let more = still_some f c items (p ∷ []) (p ∷ ps) (f.stepped c.site None (packet_numbered items p)).kept (record { rest = ps; whole = refl }) one in
           let never : None ≡ Some more.0 = sym none ∙ more.1 in
           cc

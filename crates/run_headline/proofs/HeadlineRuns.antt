@@ -1,6 +1,5 @@
 -- The headline of every completed run.
-use Rattle.std.proofs.Common.{◌≡◌, ℕ, zero, suc, ◌+◌, ◌<◌, Bool, true, false, Option, Some, None, List, [], ◌∷◌, length, map, get_or}
-use Rattle.std.proofs.Common.{refl, sym, ap, ◌∙◌, arith}
+use Rattle.std.proofs.Common.{◌≡◌, ℕ, zero, suc, ◌+◌, ◌<◌, Bool, true, false, Option, Some, None, List, [], ◌∷◌, length, map, get_or, refl, sym, ap, ◌∙◌, arith}
 use Rattle.std.specs.Prelude.{if◌then◌else◌, filter_map, option_to_list, slice_get, zip, filter}
 use Rattle.std.specs.List.{count_by, flat_map, list_any, sum_by}
 use Rattle.std.specs.Str.{bytes_eq}
@@ -47,6 +46,7 @@ use Rattle.run_headline.proofs.LineNumbers.{any_own, dones_times, has_some, none
 use Rattle.run_headline.proofs.SummaryCounts.{counts_each, names_under}
 use Rattle.run_headline.proofs.UnitOutputs.{folds_same, mine, part, processed_all, tests_agree, unit_outputs}
 use Rattle.run_headline.proofs.UnitStates.{each_kept, kept_nth, kept_of, live_nth, live_of, none_live, nothing, one_live, sorted_kept, under_names}
+use Rattle.run_report.specs.proof_outlines.proofs.joined.Setting.{Setting, setting_of}
 
 -- The nodes of a world: a switch, a controller, and instances.
 module _ {F R : Type 0} where
@@ -116,6 +116,9 @@ module _ {F R : Type 0} where
 
 module _ {R : Type 0} (F : Type 0) (f : Semantics R) (laws : FunctionLaws f) (alloc : Global) (c : Config) (items : List Msg) (choices : List Choice)
     (is : IsCompleted F f alloc c items choices) where
+  abbrev setting : Setting F R
+  setting = setting_of setting.is_input
+
   abbrev first : Network (Node F R) Msg Note
   first = started_with alloc c items
 
@@ -130,9 +133,9 @@ module _ {R : Type 0} (F : Type 0) (f : Semantics R) (laws : FunctionLaws f) (al
 
   pub nodes : AreNodes w.nodes (length c.names)
   nodes =
-      let joined = (run_beside F f laws alloc c items is.is_input choices is.is_run).joined in
-      let reached = run_world node_ready (node_step f) (length c.names + 2) first (start_world F f laws alloc c items is.is_input)
-      (count_at_start F f alloc c items is.is_input) choices is.is_run in
+      let joined = (run_beside setting choices is.is_run).joined in
+      let reached = run_world node_ready (node_step f) (length c.names + 2) first (start_world setting)
+      (count_at_start setting) choices is.is_run in
       nodes_from joined.nodes w.nodes (length c.names) reached.1 joined.nodes_are
 
   module _ (u : units.Unit) where
@@ -170,7 +173,7 @@ module _ {R : Type 0} (F : Type 0) (f : Semantics R) (laws : FunctionLaws f) (al
 
     -- a packet leaves a record
     some_step : (o : Option R) (n : ℕ) → (r : R) × (kept_after f c.site o (packet_numbered items n) ≡ Some r)
-    some_step o n = ((f.stepped c.site o (packet_numbered items n)).kept, rw ((all_fit f c items is.is_input n).transport) refl)
+    some_step o n = ((f.stepped c.site o (packet_numbered items n)).kept, rw ((all_fit setting n).transport) refl)
 
     abbrev own : List Packet
     own = packets_of of u
@@ -190,7 +193,7 @@ module _ {R : Type 0} (F : Type 0) (f : Semantics R) (laws : FunctionLaws f) (al
       in_turn = uncovered f c items w.log is.promises.answers is.answers u off
 
       record_is : records_of of u (by_unit true there) ≡ option_to_list (record_after of own)
-      record_is = records_kept ∙ ap option_to_list (ap (folds.fold f c items None) (processed_all f c items is.is_input w is.promises is.completed u in_turn)
+      record_is = records_kept ∙ ap option_to_list (ap (folds.fold f c items None) (processed_all setting w is.promises is.completed u in_turn)
           ∙ folds_same f c items u None (packets items) (all_found (λ p. p.number) 0 (packets items) is.is_input.numbers))
 
   -- what it tells of the instances is what its lines say
@@ -208,6 +211,6 @@ module _ {R : Type 0} (F : Type 0) (f : Semantics R) (laws : FunctionLaws f) (al
         ∙ sym (numbered_times (λ p. p.number) n (packets items));
     answers = answers_true F f laws alloc c items choices is;
     one_state = one_state;
-    outputs = λ u off. unit_outputs f c items is.is_input w is.promises is.completed u (in_turn u off) is.outs;
+    outputs = λ u off. unit_outputs setting w is.promises is.completed u (in_turn u off) is.outs;
     record_is = record_is;
   }

@@ -71,6 +71,7 @@ use Rattle.run_headline.proofs.SortedParts.{all_filter}
 use Rattle.run_headline.proofs.TallyLines.{has_counts}
 use Rattle.run_headline.proofs.UnitOutputs.{IsThere, folds_numbers, part, processed_all, those_numbers}
 use Rattle.run_headline.proofs.UnitStates.{kept_nth}
+use Rattle.run_report.specs.proof_outlines.proofs.joined.Setting.{Setting, setting_of}
 
 -- The first of a list.
 take_get : (n i : ℕ) (xs : List ℕ) → i < n → i < length xs → slice_get (take n xs) i ≡ Some (slice_index xs i)
@@ -118,6 +119,9 @@ told_nth (name ∷ names) (y ∷ xs) (suc i) x found = (let rest = told_nth name
 
 module _ {R : Type 0} (F : Type 0) (f : Semantics R) (laws : FunctionLaws f) (alloc : Global) (c : Config) (items : List Msg) (choices : List Choice)
     (is : IsCompleted F f alloc c items choices) where
+  abbrev setting : Setting F R
+  setting = setting_of setting.is_input
+
   abbrev w : Network (Node F R) Msg Note
   w = run (node_step f) choices (started_with alloc c items)
 
@@ -173,7 +177,7 @@ module _ {R : Type 0} (F : Type 0) (f : Semantics R) (laws : FunctionLaws f) (al
   stands_after k u s off =
       let mine = packets_of of u in
       let count = length s.front in
-      let all = processed_all f c items is.is_input w is.promises is.completed u (uncovered f c items w.log is.promises.answers is.answers u off) in
+      let all = processed_all setting w is.promises is.completed u (uncovered f c items w.log is.promises.answers is.answers u off) in
       let whole : s.front ++ s.is_front.rest ≡ map (λ p. p.number) mine = s.is_front.whole ∙ all ∙ those_numbers f c items u (packets items) packets_found in
       let front : map (λ p. p.number) (take count mine) ≡ s.front =
       sym (take-map (λ (p : Packet). p.number) count mine) ∙ ap (take count) (sym whole) ∙ take_at s.front s.is_front.rest (length s.front) refl in
@@ -206,7 +210,7 @@ module _ {R : Type 0} (F : Type 0) (f : Semantics R) (laws : FunctionLaws f) (al
       by_done (d ∷ ds) some h =
           let same : unit_numbered c items f.kind d.number ≡ u =
           same_unit-true (unit_numbered c items f.kind d.number) u (done_passes (folds.is_of f c items u) (dones_in w.log) d ds some) in
-          ap (unit_fits f.kind) (sym same) ∙ units_fit f c items is.is_input d.number
+          ap (unit_fits f.kind) (sym same) ∙ units_fit setting d.number
 
   -- A share that is done.
   module _ (once : has_twice c.names ≡ false) (op : ℕ) (home : List ℕ) (others : List (List ℕ)) (taken : Filter)
@@ -244,18 +248,17 @@ module _ {R : Type 0} (F : Type 0) (f : Semantics R) (laws : FunctionLaws f) (al
       member_kept : (i : ℕ) → has (map instance_node (filter_map (place_of c.names) (home ∷ others))) (instance_node i) ≡ true → i ≢ first.home
           → standby_at w i u ≡ Some r
       member_kept i inside apart =
-          let run = run_beside F f laws alloc c items is.is_input choices is.is_run in
-          let busy = run_busy F f laws alloc c items is.is_input choices is.is_run in
-          let reached = run_world node_ready (node_step f) (length c.names + 2) (started_with alloc c items) (start_world F f laws alloc c items is.is_input)
-          (count_at_start F f alloc c items is.is_input) choices is.is_run in
+          let run = run_beside setting choices is.is_run in
+          let busy = run_busy setting choices is.is_run in
+          let reached = run_world node_ready (node_step f) (length c.names + 2) (started_with alloc c items) (start_world setting)
+          (count_at_start setting) choices is.is_run in
           let own = owns in
           let off : (instance_node i == instance_node (owner c items u w.log)) ≡ false = grind (arith, nat_tests, apart, own) in
-          member_stands f c items is.is_input (length c.names + 2) refl w reached.1 run.joined run.beside.kept.apart busy.1 u (fits u r kept) op
+          member_stands setting (length c.names + 2) refl w reached.1 run.joined run.beside.kept.apart busy.1 u (fits u r kept) op
           (home ∷ others) taken
           order on begun at_home
           (λ a b low high other. run.joined.links a b low high other
-          ∙ ap (filter_map (shown f (given f c items is.is_input))) (done_waiting node_ended w is.is_ended (at b a)))
-          (instance_node i) inside off ∙ kept
+          ∙ ap (filter_map (shown f (given setting))) (done_waiting node_ended w is.is_ended (at b a))) (instance_node i) inside off ∙ kept
 
       one_other : (name : List ℕ) (i : ℕ) → place_of c.names name ≡ Some i → bytes_eq name home ≡ false
           → has (map instance_node (filter_map (place_of c.names) (home ∷ others))) (instance_node i) ≡ true → records_under u name standbys ≡ r ∷ []

@@ -7,7 +7,6 @@ use Rattle.std.proofs.lemmas.Bool.Decides.{Decides-eqb}
 use Rattle.flow_filter.specs.declared.filter.Filter.{Filter}
 use Rattle.flow_filter.specs.Name.{place_of}
 use Rattle.nf_function.specs.declared.unit.Unit as units
-use Rattle.nf_function.specs.Semantics.{Semantics}
 use Rattle.nf_function.specs.Units.{takes}
 use Rattle.nf_msgs.specs.declared.command.Order.TheVariants as order
 use Rattle.nf_msgs.specs.declared.msg.Msg.{Msg}
@@ -31,11 +30,10 @@ use Rattle.run_report.specs.proof_machines.proofs.net.UnderStarts.{seeing}
 use Rattle.run_report.specs.proof_machines.proofs.net.Untaken.{ElsewhereHome}
 use Rattle.run_report.specs.proof_machines.proofs.whole.Readings.{ItsShare, fold_done, its_share}
 use Rattle.run_report.specs.proof_machines.proofs.whole.WhereAll.{WhereAll, Apart_from_shares, Under_share}
-use Rattle.net_world.specs.declared.config.Config.{Config}
 use Rattle.net_world.specs.declared.node.Node.{Node}
 use Rattle.net_world.specs.Commands.{is_begun}
 use Rattle.net_world.specs.Fold.{fold, processed_of}
-use Rattle.net_world.specs.Input.{IsInput, order_numbered}
+use Rattle.net_world.specs.Input.{order_numbered}
 use Rattle.net_world.specs.Places.{is_home, owner}
 use Rattle.net_world.specs.Standby.{standby_in}
 use Rattle.run_report.specs.proof_outlines.proofs.outline.FiltersApart.{takes_same, takes_whole, unit_fits}
@@ -52,15 +50,18 @@ use Rattle.run_report.specs.nf_net.proofs.paths.SharedOwners.{members_few}
 use Rattle.run_report.specs.nf_net.proofs.FoldLemmas.{fold_is}
 use Rattle.run_report.specs.nf_net.proofs.MemberLemmas.{home_first}
 use Rattle.run_report.specs.nf_net.proofs.UnitShares.{IsOpenShare, home_is, number_is, open_begun, owner_goes}
+use Rattle.run_report.specs.proof_outlines.proofs.joined.Setting.{Setting}
 
 -- A unit, and a share that began and takes it, whose home owns it.
-module _ {F R : Type 0} (f : Semantics R) (c : Config) (items : List Msg) (is : IsInput f.kind c items) (n : ℕ) (count_is : n ≡ length c.names + 2)
-    (w : Network (Node F R) Msg Note) (nodes : length w.nodes ≡ n) (j : Joined f (given f c items is) n w) (apart : AllApart j.nodes.controller.operations)
-    (b : Busy (given f c items is) w) (u : units.Unit) (fits : unit_fits f.kind u ≡ true) (op : ℕ) (ms : List (List ℕ)) (filter : Filter)
-    (what : order_numbered items op ≡ Some (order.Share ms filter)) (on : takes filter u ≡ true) (begun : is_begun op w.log ≡ true)
-    (at_home : is_home c.names (order_numbered items) ms (owner c items u w.log) ≡ true) where
+module _ {F R : Type 0} (setting : Setting F R) (n : ℕ) (count_is : n ≡ length setting.config.names + 2) (w : Network (Node F R) Msg Note)
+    (nodes : length w.nodes ≡ n) (j : Joined setting.function (given setting) n w) (apart : AllApart j.nodes.controller.operations) (b : Busy (given setting) w)
+    (u : units.Unit) (fits : unit_fits setting.function.kind u ≡ true) (op : ℕ) (ms : List (List ℕ)) (filter : Filter)
+    (what : order_numbered setting.items op ≡ Some (order.Share ms filter)) (on : takes filter u ≡ true) (begun : is_begun op w.log ≡ true)
+    (at_home : is_home setting.config.names (order_numbered setting.items) ms (owner setting.config setting.items u w.log) ≡ true) where
+  open setting use {function as f, config as c, items}
+
   abbrev g : Given
-  g = given f c items is
+  g = given setting
 
   abbrev laws_of : IsSys (S f g)
   laws_of = is_sys f g.site g.packet
@@ -68,8 +69,8 @@ module _ {F R : Type 0} (f : Semantics R) (c : Config) (items : List Msg) (is : 
   abbrev nodes_of : List ℕ
   nodes_of = map instance_node (filter_map (place_of c.names) ms)
 
-  own : IsOpenShare f c items is n count_is w j apart b op ms filter
-  own = open_begun f c items is n count_is w j apart b op ms filter what begun
+  own : IsOpenShare setting n count_is w j apart b op ms filter
+  own = open_begun setting n count_is w j apart b op ms filter what begun
 
   -- the network has it
   seen : Both f (place g) g.site j.world.shares j.nodes.controller op own.state
@@ -111,16 +112,16 @@ module _ {F R : Type 0} (f : Semantics R) (c : Config) (items : List Msg) (is : 
 
       members_same : x.members ≡ nodes_of
       members_same =
-          let number : op ≡ here.num = number_is f c items is n count_is w j apart b u fits op ms filter own on here its in
+          let number : op ≡ here.num = number_is setting n count_is w j apart b u fits op ms filter own on here its in
           let found : Some (Share own.state) ≡ Some (Share real.s) = sym own.there ∙ ap (finite.get j.nodes.controller.operations) number ∙ real.there in
           let same : own.state ≡ real.s = cc in
           ap (λ y. y.members) real.sees.is ∙ ap (λ s. map instance_node s.plan.members) (sym same) ∙ ap (map instance_node) (sym own.members_are)
 
       home_same : x.home ≡ instance_node (owner c items u w.log)
-      home_same = home_is f c items is n count_is w j apart b u fits op ms filter own on here its (owner c items u w.log) at_home
+      home_same = home_is setting n count_is w j apart b u fits op ms filter own on here its (owner c items u w.log) at_home
 
       few : (m : ℕ) → has x.members m ≡ true → m < n
-      few m inside = members_few f c items is n count_is w j here h.holds.share m inside
+      few m inside = members_few setting n count_is w j here h.holds.share m inside
 
       kept_all : (k : ℕ) → has x.members k ≡ true → (k == x.home) ≡ false
           → (S f g).B.at u (j.world.standby k) ≡ readings.fold (S f g).F None (done_u (S f g) u j.world.done)
@@ -136,8 +137,8 @@ module _ {F R : Type 0} (f : Semantics R) (c : Config) (items : List Msg) (is : 
           let two = h.insts k member in
           let low = few k member in
           ap (standby_in u) (found_instance f g n w nodes j k two low) ∙ ap (λ t. finite.get t u) (j.shown_is.instances k two low).standby_is
-          ∙ kept_all k member (ap (λ y. k == y) home_same ∙ off) ∙ ap (readings.fold (S f g).F None) (done_same f c items is n w j u)
-          ∙ sym (fold_is f c items is None (processed_of f c items u w.log))
+          ∙ kept_all k member (ap (λ y. k == y) home_same ∙ off) ∙ ap (readings.fold (S f g).F None) (done_same setting n w j u)
+          ∙ sym (fold_is setting None (processed_of f c items u w.log))
 
     pub member_stands : (k : ℕ) → has nodes_of k ≡ true → (k == instance_node (owner c items u w.log)) ≡ false → StandsWhole k
     member_stands k inside off = by_where (j.shown_is.every.unit u)
@@ -147,6 +148,6 @@ module _ {F R : Type 0} (f : Semantics R) (c : Config) (items : List Msg) (is : 
         by_where (Apart_from_shares at none) =
             let two = where_two (S f g) laws_of u (moves_of (S f g) (A f g) j.world) _ _ at.is in
             let away = found_each (ElsewhereHome (S f g) u j.world.target) j.world.shares op seen.e at.untaken.homes seen.there its_own in
-            let same : seen.e.home ≡ j.world.target u = home_so ∙ sym (owner_goes f c items is n w j u fits two) in
+            let same : seen.e.home ≡ j.world.target u = home_so ∙ sym (owner_goes setting n w j u fits two) in
             let never : (seen.e.home == j.world.target u) ≡ true = (Decides-eqb seen.e.home (j.world.target u)).1 same in
             cc

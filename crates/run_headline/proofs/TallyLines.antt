@@ -1,6 +1,5 @@
 -- At the end of a run the own count of an instance in its tally is the number of lines of packets that it has processed, and it counts no more of others.
-use Rattle.std.proofs.Common.{◌≡◌, ℕ, suc, ◌+◌, ◌<◌, ◌≤◌, Bool, true, false, cond, List, [], ◌∷◌, length, get_or, slice_index}
-use Rattle.std.proofs.Common.{refl, ap, ◌∙◌, subst, arith}
+use Rattle.std.proofs.Common.{◌≡◌, ℕ, suc, ◌+◌, ◌<◌, ◌≤◌, Bool, true, false, cond, List, [], ◌∷◌, length, get_or, slice_index, refl, ap, ◌∙◌, subst, arith}
 use Rattle.std.specs.Prelude.{◌==◌, filter, filter_map, min}
 use Rattle.std.specs.declared.alloc.Global.{Global}
 use Rattle.std.proofs.lemmas.List.{length-map}
@@ -23,6 +22,7 @@ use Rattle.net_world.specs.Start.{started_with}
 use Rattle.run_headline.specs.Law.{IsCompleted, done_in}
 use Rattle.run_headline.proofs.OwnTallies.{done_at, most}
 use Rattle.run_headline.proofs.TallyRuns.{AtNode, IsTallied, run_tallied}
+use Rattle.run_report.specs.proof_outlines.proofs.joined.Setting.{Setting, setting_of}
 
 -- there are as many lines as packets that were processed
 lines_done : (log : List Note) → length (filter_map done_in log) ≡ length (dones_in log)
@@ -35,6 +35,9 @@ few_pass p xs = let kept = length-filter p xs in let few = count_by-le-length p 
 
 module _ {R : Type 0} (F : Type 0) (f : Semantics R) (laws : FunctionLaws f) (alloc : Global) (c : Config) (items : List Msg) (choices : List Choice)
     (is : IsCompleted F f alloc c items choices) where
+  abbrev setting : Setting F R
+  setting = setting_of setting.is_input
+
   abbrev w : Network (Node F R) Msg Note
   w = run (node_step f) choices (started_with alloc c items)
 
@@ -47,7 +50,7 @@ module _ {R : Type 0} (F : Type 0) (f : Semantics R) (laws : FunctionLaws f) (al
   pub has_counts : (i : ℕ) (x : InstanceState F R) → i < length c.names → ((d : Node F R) → get_or w.nodes (suc (suc i)) d ≡ Instance x) → HasCounts i x
   has_counts i x low there =
       let within : suc (suc i) < length c.names + 2 = omega (arith, low) in
-      let tallied = run_tallied F f laws alloc c items is.is_input choices is.is_run in
+      let tallied = run_tallied setting choices is.is_run in
       let it : IsTallied f w.log (suc (suc i)) x = subst (AtNode f w.log (suc (suc i))) (there (Instance x))
       (tallied.at_nodes (suc (suc i)) within (Instance x)) in
       let node = it.node in

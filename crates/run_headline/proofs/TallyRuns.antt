@@ -1,9 +1,7 @@
 -- In every run the own count of an instance in its tally is the number of packets that it has processed, and no tally counts more of another.
-use Rattle.std.proofs.Common.{◌≡◌, ◌≢◌, ℕ, zero, suc, ◌+◌, ◌<◌, ◌≤◌, true, false, Option, Some}
-use Rattle.std.proofs.Common.{None, Ok, List, [], ◌∷◌, ◌++◌, length, get_or, replicate, slice_index}
-use Rattle.std.proofs.Common.{refl, sym, ap, ◌∙◌, subst, arith}
+use Rattle.std.proofs.Common.{◌≡◌, ◌≢◌, ℕ, zero, suc, ◌+◌, ◌<◌, ◌≤◌, true, false, Option, Some, None, Ok, List, [], ◌∷◌, ◌++◌, length, get_or, replicate}
+use Rattle.std.proofs.Common.{slice_index, refl, sym, ap, ◌∙◌, subst, arith}
 use Rattle.std.specs.Prelude.{◌==◌, min}
-use Rattle.std.specs.declared.alloc.Global.{Global}
 use Rattle.std.specs.FinMap as finite
 use Rattle.std.proofs.lemmas.List.{length-replicate}
 use Rattle.std.proofs.lemmas.Bool.Decides.{nat_tests}
@@ -25,19 +23,17 @@ use Rattle.switch_node.specs.Switch.{switch_step}
 use Rattle.instance_worker.specs.declared.instance.Instance.{Instance as InstanceState}
 use Rattle.instance_worker.specs.Instance.{Step, instance_step, on_put_all, tally_put}
 use Rattle.actor_net.specs.declared.choice.Choice.{Choice}
-use Rattle.actor_net.specs.Network.{Network, Stepped, IsRun, run, world_next}
+use Rattle.actor_net.specs.Network.{Network, Stepped, world_next}
 use Rattle.actor_net.proofs.EnabledChoices.{at}
 use Rattle.actor_net.proofs.OpeningWorlds.{opening_on_links}
 use Rattle.actor_net.proofs.RunInduction.{Taking, run_induction}
 use Rattle.actor_net.proofs.StepOutcome.{Takes, taken_outcome}
 use Rattle.actor_net.proofs.WeightLaws.{Each, OnLinks, EachSent, on_links_after}
 use Rattle.run_report.specs.proof_machines.proofs.unit.Labels.{each_map}
-use Rattle.net_world.specs.declared.config.Config.{Config}
 use Rattle.net_world.specs.declared.node.Node.{Node}
 use Rattle.net_world.specs.declared.node.Node.TheVariants.{Instance}
-use Rattle.net_world.specs.Input.{IsInput}
 use Rattle.net_world.specs.Nodes.{node_step, node_ready}
-use Rattle.net_world.specs.Start.{first_instance, first_nodes, started_with}
+use Rattle.net_world.specs.Start.{first_instance, first_nodes}
 use Rattle.run_report.specs.proof_outlines.proofs.joined.BesideRuns.{its_label, its_takes}
 use Rattle.run_report.specs.proof_outlines.proofs.joined.CopyAnswers.{is_uncopied}
 use Rattle.run_report.specs.proof_outlines.proofs.joined.CopySends.{BeginSo, TurnSo, controller_sent}
@@ -49,6 +45,7 @@ use Rattle.run_report.specs.proof_outlines.proofs.joined.StartJoined.{all_fit, c
 use Rattle.run_report.specs.nf_net.proofs.ends.TallySteps.{IsTallyChunk, reads}
 use Rattle.run_report.specs.nf_net.proofs.ends.TokenRuns.{HasEnough, TallyLabel, enough_at_start, enough_next}
 use Rattle.run_headline.proofs.OwnTallies.{Counted, HasCount, NoTallies, NoTally, done_append, done_at, instance_counted, most, none_done}
+use Rattle.run_report.specs.proof_outlines.proofs.joined.Setting.{Setting, start, IsCourse, world_of}
 
 -- no count is more than what the instance has processed
 abbrev pub Below : List Note → List ℕ → Type 0
@@ -317,10 +314,11 @@ zero_at zero i = refl
 zero_at (suc n) zero = refl
 zero_at (suc n) (suc i) = zero_at n i
 
-module _ (F : Type 0) {R : Type 0} (f : Semantics R) (laws : FunctionLaws f) (alloc : Global) (c : Config) (items : List Msg)
-    (is : IsInput f.kind c items) where
-  abbrev start : Network (Node F R) Msg Note
-  start = started_with {F = F} {R = R} alloc c items
+module _ {F R : Type 0} (setting : Setting F R) where
+  open setting use {function as f, laws, alloc, config as c, items, is_input as is}
+
+  abbrev first : Network (Node F R) Msg Note
+  first = start setting
 
   abbrev nodes : ℕ
   nodes = length c.names + 2
@@ -336,9 +334,9 @@ module _ (F : Type 0) {R : Type 0} (f : Semantics R) (laws : FunctionLaws f) (al
   items_way [] = tt
   items_way (m ∷ ms) = (from_switch f [] 0 m, items_way ms)
 
-  tallied_at_start : Tallied f nodes start
+  tallied_at_start : Tallied f nodes first
   tallied_at_start =
-      let many = count_at_start F f alloc c items is in
+      let many = count_at_start setting in
       record {
         way = opening_on_links Note (first_nodes {F = F} {R = R} alloc c) items (Bounded f []) (omega (arith, many)) (items_way items);
         at_nodes = first_at;
@@ -350,27 +348,24 @@ module _ (F : Type 0) {R : Type 0} (f : Semantics R) (laws : FunctionLaws f) (al
       first_at (suc (suc i)) low d =
           let few = is.is_config.few in
           let there : i < length c.names = omega (arith, low) in
-          subst (AtNode f [] (suc (suc i))) (sym (instance_found F f alloc c items is (length c.names) i d there)) (first_tallied i (omega (arith, few, there)))
+          subst (AtNode f [] (suc (suc i))) (sym (instance_found setting (length c.names) i d there)) (first_tallied i (omega (arith, few, there)))
 
   abbrev AllOf : Network (Node F R) Msg Note → Type 0
-  AllOf w = Runs F f laws alloc c items is w × (HasEnough f nodes w × Tallied f nodes w)
+  AllOf w = Runs setting w × (HasEnough f nodes w × Tallied f nodes w)
 
   tallied_next : (w : Network (Node F R) Msg Note) (k : Choice) → Taking node_ready (node_step f) nodes w k → AllOf w
       → Tallied f nodes (world_next (node_step f) w k)
   tallied_next w k t h =
-      let g : Given = given f c items is in
-      let fitting = all_fit f c items is in
+      let g : Given = given setting in
+      let fitting = all_fit setting in
       after_step f g nodes w h.0.joined k.port t.message t.rest h.1.1 h.1.0 k.node
       (its_takes f laws g fitting nodes refl w k t h.0.joined h.0.beside) (its_label f laws g fitting nodes refl w k t h.0.joined h.0.beside)
 
-  pub run_tallied : (cs : List Choice) → IsRun node_ready (node_step f) cs start → Tallied f nodes (run (node_step f) cs start)
+  pub run_tallied : (cs : List Choice) → IsCourse setting cs → Tallied f nodes (world_of setting cs)
   run_tallied cs run_is = it.1.1
     where
-      it : AllOf (run (node_step f) cs start)
-      it = run_induction node_ready (node_step f) nodes (λ _ w. AllOf w) start
-          (λ _ w k next h. (
-            runs_next F f laws alloc c items is w k next.taking h.0,
-            (enough_next F f laws alloc c items is w k next.taking h.0 h.1.0, tallied_next w k next.taking h),
+      it : AllOf (world_of setting cs)
+      it = run_induction node_ready (node_step f) nodes (λ _ w. AllOf w) first (λ _ w k next h. ( runs_next setting w k next.taking h.0,
+            (enough_next setting w k next.taking h.0 h.1.0, tallied_next w k next.taking h),
           ))
-          (start_world F f laws alloc c items is) (count_at_start F f alloc c items is)
-          (runs_at_start F f laws alloc c items is, (enough_at_start F f laws alloc c items is, tallied_at_start)) cs run_is
+          (start_world setting) (count_at_start setting) (runs_at_start setting, (enough_at_start setting, tallied_at_start)) cs run_is

@@ -13,7 +13,7 @@ use Rattle.actor_net.specs.Network.{Network}
 use Rattle.net_world.specs.declared.config.Config.{Config}
 use Rattle.net_world.specs.declared.node.Node.{Node}
 use Rattle.net_world.specs.Fold as folds
-use Rattle.net_world.specs.Input.{IsInput, IsRising, packets}
+use Rattle.net_world.specs.Input.{IsRising, packets}
 use Rattle.net_world.specs.Log.{dones_in, done_where}
 use Rattle.net_world.specs.Places.{is_loose}
 use Rattle.run_report.specs.nf_net.specs.Promises.{Promises, Completed}
@@ -24,6 +24,7 @@ use Rattle.run_headline.proofs.FoundNumbers.{all_found, rising_from}
 use Rattle.run_headline.proofs.others.PacketNumbers.{filter_numbers, numbered_is, tests_agree as tests_found}
 use Rattle.run_headline.proofs.SortedParts.{all_filter, part_stays, up_rising}
 use Rattle.std.proofs.lemmas.Cmp.{nat_cmp_total}
+use Rattle.run_report.specs.proof_outlines.proofs.joined.Setting.{Setting}
 
 abbrev Outs : Type 0
 Outs = List (ℕ × Output)
@@ -123,8 +124,11 @@ module _ {R : Type 0} (f : Semantics R) (c : Config) (items : List Msg) (u : uni
       → folds.fold f c items kept (filter mine (map (λ p. p.number) ps)) ≡ fold (kept_after f c.site) kept (filter part ps)
   folds_same kept ps all = ap (folds.fold f c items kept) (those_numbers ps all) ∙ folds_numbers kept (filter part ps) (all_filter IsThere part ps all)
 
-module _ {F R : Type 0} (f : Semantics R) (c : Config) (items : List Msg) (is : IsInput f.kind c items) (w : Network (Node F R) Msg Note)
-    (promises : Promises f c items w) (completed : Completed f c items w) (u : units.Unit) (loose : is_loose c items u w.log ≡ false) where
+module _ {F R : Type 0} (setting : Setting F R) (w : Network (Node F R) Msg Note) (promises : Promises setting.function setting.config setting.items w)
+    (completed : Completed setting.function setting.config setting.items w) (u : units.Unit)
+    (loose : is_loose setting.config setting.items u w.log ≡ false) where
+  open setting use {function as f, config as c, items, is_input as is}
+
   all_there : AllByRecursion (IsThere f c items u) (packets items)
   all_there = all_found (λ p. p.number) 0 (packets items) is.numbers
 

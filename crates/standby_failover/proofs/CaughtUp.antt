@@ -18,7 +18,7 @@ use Rattle.net_world.specs.Log.{arrivals_in}
 use Rattle.net_world.specs.Places.{unit_in}
 use Rattle.net_world.specs.Records.{live_at, HasOneRecord, Has_none, Is_given, Is_live, Is_on_way}
 use Rattle.net_world.specs.Seen.{HasRecord, HasSeen, Lacks_last, Sees_all}
-use Rattle.nf_net.specs.proof_outlines.proofs.joined.StartJoined.{all_fit}
+use Rattle.nf_net.specs.proof_outlines.proofs.joined.StartJoined.{input_fits}
 use Rattle.standby_failover.specs.declared.promoted.Promoted.{Promoted}
 use Rattle.standby_failover.specs.Failover.{Failover, record_kept, lost_in_order, open_of, open_packets, numbers_done, processed_of}
 use Rattle.standby_failover.specs.Failover.{reflected_by, standing, is_affected, is_in, is_lost, is_open, HasCaughtUp, IsLeft, IsPromoted}
@@ -72,7 +72,7 @@ module _ {F R : Type 0} (x : Failover F R) where
     still_some : (r : Option R) (ns : List ℕ) → is_some r ≡ true → is_some (fold f c items r ns) ≡ true
     still_some r [] some = some
     still_some r (p ∷ ns) some =
-        let transport = (all_fit f c items left.is_input p).transport in
+        let transport = (input_fits c items left.is_input p).transport in
         let next : Option R = Some (f.stepped c.site r (packet_numbered items p)).kept in
         let rest = still_some next ns refl in
         rw transport rest

@@ -1,38 +1,34 @@
 -- In a world of a run the node of each instance is an instance.
 use Rattle.std.proofs.Common.{◌≡◌, ℕ, ◌+◌, ◌<◌, true, List, length, ap, ◌∙◌, arith, Some}
 use Rattle.std.specs.Prelude.{slice_get}
-use Rattle.std.specs.declared.alloc.Global.{Global}
 use Rattle.std.proofs.lemmas.Option.{slice_get-get_or}
 use Rattle.nf_function.specs.Records.{Laws as FunctionLaws}
-use Rattle.nf_function.specs.Semantics.{Semantics}
 use Rattle.nf_msgs.specs.declared.msg.Msg.{Msg}
 use Rattle.nf_msgs.specs.declared.note.Note.{Note}
 use Rattle.nf_msgs.specs.Nodes.{instance_node}
 use Rattle.actor_net.specs.declared.choice.Choice.{Choice}
-use Rattle.actor_net.specs.Network.{Network, IsRun, run}
+use Rattle.actor_net.specs.Network.{Network}
 use Rattle.actor_net.proofs.RunInduction.{run_world}
-use Rattle.net_world.specs.declared.config.Config.{Config}
 use Rattle.net_world.specs.declared.node.Node.{Node}
 use Rattle.net_world.specs.declared.node.Node.TheVariants.{Instance}
-use Rattle.net_world.specs.Input.{IsInput}
 use Rattle.net_world.specs.Nodes.{node_step, node_ready}
-use Rattle.net_world.specs.Start.{started_with}
 use Rattle.net_world.specs.Tables.{is_instance}
 use Rattle.nf_net.specs.proof_outlines.proofs.joined.StartJoined.{count_at_start}
 use Rattle.nf_net.specs.proof_outlines.proofs.joined.RunsJoined.{run_beside, start_world}
 use Rattle.nf_net.proofs.paths.RecordPromises.{instance_of}
+use Rattle.nf_net.specs.proof_outlines.proofs.joined.Setting.{Setting, start, IsCourse, world_of}
 
-module _ (F : Type 0) {R : Type 0} (f : Semantics R) (laws : FunctionLaws f) (alloc : Global) (c : Config) (items : List Msg) (is : IsInput f.kind c items)
-    (cs : List Choice) where
+module _ {F R : Type 0} (setting : Setting F R) (cs : List Choice) where
+  open setting use {function as f, config as c}
+
   abbrev w : Network (Node F R) Msg Note
-  w = run (node_step f) cs (started_with {F = F} {R = R} alloc c items)
+  w = world_of setting cs
 
-  pub are_there : IsRun node_ready (node_step f) cs (started_with {F = F} {R = R} alloc c items) → (i : ℕ) → i < length c.names
-      → is_instance (slice_get w.nodes (instance_node i)) ≡ true
+  pub are_there : IsCourse setting cs → (i : ℕ) → i < length c.names → is_instance (slice_get w.nodes (instance_node i)) ≡ true
   are_there runs i within =
-      let j = (run_beside F f laws alloc c items is cs runs).joined in
-      let reached = run_world node_ready (node_step f) (length c.names + 2) (started_with {F = F} {R = R} alloc c items) (start_world F f laws alloc c items is)
-      (count_at_start F f alloc c items is) cs runs in
+      let j = (run_beside setting cs runs).joined in
+      let reached = run_world node_ready (node_step f) (length c.names + 2) (start setting) (start_world setting)
+      (count_at_start setting) cs runs in
       let few : instance_node i < length c.names + 2 = omega (arith, within) in
       let node : Node F R = Instance (j.nodes.instance (instance_node i)) in
       let long : length w.nodes ≡ length c.names + 2 = reached.1 in

@@ -18,7 +18,7 @@ use Rattle.net_world.proofs.NumberCounts.{done_numbers, times_filter}
 use Rattle.nf_net.specs.Promises.{Promises}
 use Rattle.nf_net.proofs.FrontLemmas.{front_length}
 use Rattle.nf_net.proofs.PacketCounts.{no_longer, done_times}
-use Rattle.nf_net.specs.proof_outlines.proofs.joined.StartJoined.{all_fit}
+use Rattle.nf_net.specs.proof_outlines.proofs.joined.StartJoined.{input_fits}
 use Rattle.standby_failover.specs.Failover.{Failover, record_kept, numbers_done, processed_of, reflected_by, standing, AreReflected, IsReflected}
 use Rattle.standby_failover.proofs.ListLemmas.{IsOnce}
 
@@ -57,7 +57,7 @@ module _ {F R : Type 0} (x : Failover F R) where
       fold_counts : (r : Option R) (ns : List ℕ) → packets_in f r + length ns ≤ most_counted → packets_in f (fold f c items r ns) ≡ packets_in f r + length ns
       fold_counts r [] few = omega arith
       fold_counts r (p ∷ ns) few =
-          let transport = (all_fit f c items is p).transport in
+          let transport = (input_fits c items is p).transport in
           let next : Option R = Some (f.stepped c.site r (packet_numbered items p)).kept in
           let one : packets_in f next ≡ packets_in f r + 1 = laws.counts c.site r (packet_numbered items p) ∙ min-eq_left (omega (arith, few)) in
           let rest = fold_counts next ns (omega (arith, few, one)) in

@@ -1,10 +1,9 @@
 -- No run is longer than its bound, and a world of a run that isn't complete has an enabled choice.
 use Rattle.strong_share.proofs.Words.{◌≡◌, ℕ, zero, suc, ◌+◌, ◌-◌, ◌*◌, ◌<◌, ◌≤◌, Bool, true, false, Option, None, Some, List, [], ◌∷◌, ◌++◌, length}
-use Rattle.strong_share.proofs.Words.{length-append, get_or, refl, sym, ap, subst, ◌∙◌, arith, if◌then◌else◌, ◌==◌, ◌&&◌, flat_map, Global}
-use Rattle.strong_share.proofs.Words.{Decides-eqb, Decides-ltb, Packet, Laws, Semantics, Chunk, Msg, InPacket, InEnd, Choice, Network}
-use Rattle.strong_share.proofs.Words.{IsWorld, IsRun, run, world_next, queue_at, is_done, at, NextChoice, run_induction, Each, weigh, sent_weight, StrongNote}
-use Rattle.strong_share.proofs.Words.{StrongNode, Switch, Controller, Idle, node_step, node_ready, node_ended, takes_in, is_idle, StrongJob, IsStrongJob}
-use Rattle.strong_share.proofs.Words.{input_of, first_member, StrongEnds}
+use Rattle.strong_share.proofs.Words.{length-append, get_or, refl, sym, ap, subst, ◌∙◌, arith, if◌then◌else◌, ◌==◌, ◌&&◌, flat_map, Global, Decides-eqb}
+use Rattle.strong_share.proofs.Words.{Decides-ltb, Packet, Laws, Semantics, Chunk, Msg, InPacket, InEnd, Choice, Network, IsWorld, IsRun, run, world_next}
+use Rattle.strong_share.proofs.Words.{queue_at, is_done, at, NextChoice, run_induction, Each, weigh, sent_weight, StrongNote, StrongNode, Switch, Controller}
+use Rattle.strong_share.proofs.Words.{Idle, node_step, node_ready, node_ended, takes_in, is_idle, StrongJob, IsStrongJob, input_of, first_member, StrongEnds}
 use Rattle.std.proofs.Math.Nat.{mul-suc}
 use Rattle.actor_net.specs.declared.schedule.Schedule.TheVariants.{First}
 use Rattle.actor_net.specs.Network.{is_enabled}
@@ -18,9 +17,8 @@ use Rattle.strong_share.specs.Words.{most_choices}
 use Rattle.strong_share.proofs.Lists.{two_zero}
 use Rattle.strong_share.proofs.Scenes.{Scene, Shows, next_scene, sends_of, node_of}
 use Rattle.strong_share.proofs.Shown.{found}
-use Rattle.strong_share.proofs.ServedPackets.{one_if, Answer, Turn, Turn.Quiet, is_pending, pending, Stage, Stage.Resting}
-use Rattle.strong_share.proofs.ServedPackets.{Stage.Carries, Stage.Tells, Stage.Spreads, chunk_after, goes_to, comes_from, to_of, answers_of, serving_of}
-use Rattle.strong_share.proofs.ServedPackets.{FitsStage}
+use Rattle.strong_share.proofs.ServedPackets.{one_if, Answer, Turn, Turn.Quiet, is_pending, pending, Stage, Stage.Resting, Stage.Carries, Stage.Tells}
+use Rattle.strong_share.proofs.ServedPackets.{Stage.Spreads, chunk_after, goes_to, comes_from, to_of, answers_of, serving_of, FitsStage}
 use Rattle.strong_share.proofs.Reading.{answer_in, end_in, stop_in}
 use Rattle.strong_share.proofs.Holding.{in_label, ends_left, Holds}
 use Rattle.strong_share.proofs.Steps.{kept}

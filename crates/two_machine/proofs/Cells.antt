@@ -1,10 +1,9 @@
 -- The switch counts the packets under way: those on links, in the store, and held.
-use Rattle.two_machine.proofs.Words.{◌≡◌, ◌≢◌, ℕ, ◌+◌, true, false, List, [], ◌∷◌, ◌++◌, length, refl, ap, ◌∙◌, arith, if◌then◌else◌, ◌==◌, length_push}
-use Rattle.two_machine.proofs.Words.{Free, Drops, Target, To_a, System, Msg, Switch, Ctrl, Inst, Step, In_packet, In_start, In_end, Forward, Lay, Finish}
-use Rattle.two_machine.proofs.Words.{Carry, Pass, Stop, Enable, Get, Delete, Restore, Fence, Event, Fenced, Credit, goes, switch_step, processed}
-use Rattle.two_machine.proofs.Words.{all_processed, inst_step, forwards, ctrl_row, soon_at, finishes, ctrl_step, takes_in, World, read-append, Place, Ac, Bc}
-use Rattle.two_machine.proofs.Words.{Ca, Cb, Cs, In, Sa, Sb, Sc, Aw, Bw, with_waits, OnBack, Label, to_one, sent, put_switch, put_ctrl, put_a, put_b, result}
-use Rattle.two_machine.proofs.Words.{weigh, weigh-append}
+use Rattle.two_machine.proofs.Words.{◌≡◌, ◌≢◌, ℕ, ◌+◌, true, false, List, [], ◌∷◌, ◌++◌, length, refl, ap, ◌∙◌, arith, if◌then◌else◌, ◌==◌, length_push, Free}
+use Rattle.two_machine.proofs.Words.{Drops, Target, To_a, System, Msg, Switch, Ctrl, Inst, Step, In_packet, In_start, In_end, Forward, Lay, Finish, Carry, Pass}
+use Rattle.two_machine.proofs.Words.{Stop, Enable, Get, Delete, Restore, Fence, Event, Fenced, Credit, goes, switch_step, processed, all_processed, inst_step}
+use Rattle.two_machine.proofs.Words.{forwards, ctrl_row, soon_at, finishes, ctrl_step, takes_in, World, read-append, Place, Ac, Bc, Ca, Cb, Cs, In, Sa, Sb, Sc}
+use Rattle.two_machine.proofs.Words.{Aw, Bw, with_waits, OnBack, Label, to_one, sent, put_switch, put_ctrl, put_a, put_b, result, weigh, weigh-append}
 use Rattle.two_machine.proofs.Rows.{Kind, Cell, kind, Row, Lays_low, Stores, Finishes, Not_yet, Asks, row, soon_row, finish_row, Carried, Runs, Hands_out}
 use Rattle.two_machine.proofs.Rows.{Held, carried}
 use Rattle.two_machine.proofs.Arrivals.{Ready}

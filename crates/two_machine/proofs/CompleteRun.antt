@@ -1,11 +1,10 @@
 -- In a complete run all was processed, each record stands at one instance alone, and the verdict is true.
 use Rattle.two_machine.proofs.Words.{◌≡◌, ℕ, Bool, true, false, Option, None, Some, List, [], ◌∷◌, ◌++◌, refl, sym, ap, subst, ◌∙◌, append-nil, arith, ◌⊎◌, inl}
-use Rattle.two_machine.proofs.Words.{inr}
-use Rattle.two_machine.proofs.Words.{if◌then◌else◌, and_parts, false≢true, Choice, Network, run, IsRun, is_done, Over, Scan, Is_done, Is_none, No_low, after}
-use Rattle.two_machine.proofs.Words.{Frame, State, Stage, No_packet_came, High_comes, Is_over, Not_begun, Before, Storing, Passing, Turned, Ends, done, path}
-use Rattle.two_machine.proofs.Words.{Fits, Rises, System, Laws, Msg, Note, Node, Is_switch, Done, No_packet, is_over, node_step, node_ready, node_ended, World}
-use Rattle.two_machine.proofs.Words.{net, read, those, carries, arrived, ran, scans, Observer, Nobody, Of_unit, IsTaken, frame, view, Place, In, Cs, Ac, Sa}
-use Rattle.two_machine.proofs.Words.{Sb, choice, waits, waiting_at, done_is, shape}
+use Rattle.two_machine.proofs.Words.{inr, if◌then◌else◌, and_parts, false≢true, Choice, Network, run, IsRun, is_done, Over, Scan, Is_done, Is_none, No_low}
+use Rattle.two_machine.proofs.Words.{after, Frame, State, Stage, No_packet_came, High_comes, Is_over, Not_begun, Before, Storing, Passing, Turned, Ends, done}
+use Rattle.two_machine.proofs.Words.{path, Fits, Rises, System, Laws, Msg, Note, Node, Is_switch, Done, No_packet, is_over, node_step, node_ready, node_ended}
+use Rattle.two_machine.proofs.Words.{World, net, read, those, carries, arrived, ran, scans, Observer, Nobody, Of_unit, IsTaken, frame, view, Place, In, Cs, Ac}
+use Rattle.two_machine.proofs.Words.{Sa, Sb, choice, waits, waiting_at, done_is, shape}
 use Rattle.std.specs.Prelude.{filter_map, option_to_list}
 use Rattle.std.specs.List.{cons_option}
 use Rattle.two_machine.proofs.Stages as stages

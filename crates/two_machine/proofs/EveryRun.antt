@@ -1,8 +1,7 @@
 -- Order, each packet at most once, true outputs, Low before High, for every run.
-use Rattle.two_machine.proofs.Words.{◌≡◌, ◌≤◌, ℕ, ◌+◌, length, Bool, true, false, None, List, [], ◌∷◌, ◌++◌, refl, sym, ap, subst, ◌∙◌}
-use Rattle.two_machine.proofs.Words.{append_assoc, arith, if◌then◌else◌, ◌==◌, nat_tests, Decides-eqb, Choice, Network, run, IsRun, done}
-use Rattle.two_machine.proofs.Words.{path, Rises, System, Laws, Msg, Note, Node, node_step, node_ready, read, those, those-append, carries, arrived, ran}
-use Rattle.two_machine.proofs.Words.{Nobody, Of_unit, frame, with_waits, done_is}
+use Rattle.two_machine.proofs.Words.{◌≡◌, ◌≤◌, ℕ, ◌+◌, length, Bool, true, false, None, List, [], ◌∷◌, ◌++◌, refl, sym, ap, subst, ◌∙◌, append_assoc, arith}
+use Rattle.two_machine.proofs.Words.{if◌then◌else◌, ◌==◌, nat_tests, Decides-eqb, Choice, Network, run, IsRun, done, path, Rises, System, Laws, Msg, Note, Node}
+use Rattle.two_machine.proofs.Words.{node_step, node_ready, read, those, those-append, carries, arrived, ran, Nobody, Of_unit, frame, with_waits, done_is}
 use Rattle.actor_net.proofs.NumberCounts.{times-append, times_filter}
 use Rattle.two_machine.proofs.Arrivals.{coming}
 use Rattle.two_machine.proofs.Runs.{Reached, known}

@@ -1,15 +1,13 @@
 -- Each step from a stage from the low rule on leads to a stage, in order.
 use Rattle.two_machine.proofs.Words.{◌≡◌, ℕ, Bool, true, false, Option, Some, None, List, [], ◌∷◌, ◌++◌, refl, sym, ap, subst, ◌∙◌, append_assoc, append-nil}
-use Rattle.two_machine.proofs.Words.{fold-append, map-append, read, read-append, copies, copied}
-use Rattle.two_machine.proofs.Words.{is_some, false≢true, Frame, Move, End_comes, Arrive, Take_sa, Take_pass, Take_plain, Take_sc, Take_forward, Take_cs}
-use Rattle.two_machine.proofs.Words.{Take_cb, Take_event, Take_seen, Take_bc, Idles, same, Low_goes, Low_comes, Waits, No_packet_came, High_comes, Settles}
-use Rattle.two_machine.proofs.Words.{Fence_goes, Is_over, Stage, Before, Storing, Passing, Turned, Ends, to_list, done, path, last_or, Rises, fit, Fits, shape}
-use Rattle.two_machine.proofs.Words.{Allowed, Leads, to, GoesOn}
+use Rattle.two_machine.proofs.Words.{fold-append, map-append, read, read-append, copies, copied, is_some, false≢true, Frame, Move, End_comes, Arrive, Take_sa}
+use Rattle.two_machine.proofs.Words.{Take_pass, Take_plain, Take_sc, Take_forward, Take_cs, Take_cb, Take_event, Take_seen, Take_bc, Idles, same, Low_goes}
+use Rattle.two_machine.proofs.Words.{Low_comes, Waits, No_packet_came, High_comes, Settles, Fence_goes, Is_over, Stage, Before, Storing, Passing, Turned, Ends}
+use Rattle.two_machine.proofs.Words.{to_list, done, path, last_or, Rises, fit, Fits, shape, Allowed, Leads, to, GoesOn}
 use Rattle.two_machine.proofs.Machine.{Laid, soon}
 use Rattle.two_machine.proofs.Stages.{Turn, High_goes, Late, Last, Fenced_comes, Old, old, Copies, waits, since_seen, old_path, Follows, LastFits, copying}
 use Rattle.two_machine.proofs.Stages.{PathFits}
-use Rattle.two_machine.proofs.Laws.{copied_all, last_put, append_nil_left, append_nil_right, rises_after}
-use Rattle.two_machine.proofs.Laws.{rises_front, only_one, both}
+use Rattle.two_machine.proofs.Laws.{copied_all, last_put, append_nil_left, append_nil_right, rises_after, rises_front, only_one, both}
 use Rattle.two_machine.proofs.EarlySteps.{stays, paths, before, storing}
 
 ruleset shapes = (append_assoc, append-nil, fold-append, map-append)

@@ -4,9 +4,8 @@ use Rattle.two_machine.proofs.Words.{System, Msg, Switch, Ctrl, Inst, Step, In_p
 use Rattle.two_machine.proofs.Words.{Delete, Restore, Fence, Chunks, Fenced, has_room, goes, switch_step, processed, all_processed, inst_step, forwards}
 use Rattle.two_machine.proofs.Words.{ctrl_row, and_then, soon_at, finishes, soon, ctrl_step, read, read-append, arrived, ran, Place, Ca, Cb, Sa, Sb, Ac}
 use Rattle.two_machine.proofs.Words.{choice, IsSelected, Label, From_a, From_b, Each, each-append}
-use Rattle.two_machine.proofs.Rows.{Kind, Ended, Has, kind, Row, Freezes, Gets, Deletes, Restores, Holds, Lays_low, Lays_high}
-use Rattle.two_machine.proofs.Rows.{Fences, Forwards, Hears_a, Finishes, Not_yet, Asks}
-use Rattle.two_machine.proofs.Rows.{row, soon_row, finish_row, Carried, Runs, Hands_out, Held, carried}
+use Rattle.two_machine.proofs.Rows.{Kind, Ended, Has, kind, Row, Freezes, Gets, Deletes, Restores, Holds, Lays_low, Lays_high, Fences, Forwards, Hears_a}
+use Rattle.two_machine.proofs.Rows.{Finishes, Not_yet, Asks, row, soon_row, finish_row, Carried, Runs, Hands_out, Held, carried}
 use Rattle.two_machine.proofs.Puts.{From_switch, FromCtrl}
 
 module _ {U T C R O : Type 0} (S : System U T C R O) where

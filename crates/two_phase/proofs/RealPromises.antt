@@ -1,9 +1,8 @@
 -- What is proved of the reduced network, in the words of the promises.
 use Rattle.two_phase.proofs.Words.{◌≡◌, ◌≤◌, ◌⊎◌, inl, inr, ℕ, suc, ◌+◌, ◌*◌, Bool, true, false, Option, Some, None, List, [], ◌∷◌, ◌++◌, map, drop, length}
-use Rattle.two_phase.proofs.Words.{refl, sym, ap, subst, ◌∙◌, arith, if◌then◌else◌, ◌==◌, ◌&&◌, slice_get, list_all, Global, nat_tests, Output}
-use Rattle.two_phase.proofs.Words.{FunctionLaws, Semantics, kept_after, output_for, Choice, Network, is_enabled, is_done, packet_numbered, TwoMsg, TwoNote}
-use Rattle.two_phase.proofs.Words.{TwoNode, Switch, SwitchState, node_ready, node_ended, UpdateJob, IsUpdateJob, items_of, inner_notes}
-use Rattle.two_phase.proofs.Words.{switch_in, Published, read, read-append}
+use Rattle.two_phase.proofs.Words.{refl, sym, ap, subst, ◌∙◌, arith, if◌then◌else◌, ◌==◌, ◌&&◌, slice_get, list_all, Global, nat_tests, Output, FunctionLaws}
+use Rattle.two_phase.proofs.Words.{Semantics, kept_after, output_for, Choice, Network, is_enabled, is_done, packet_numbered, TwoMsg, TwoNote, TwoNode, Switch}
+use Rattle.two_phase.proofs.Words.{SwitchState, node_ready, node_ended, UpdateJob, IsUpdateJob, items_of, inner_notes, switch_in, Published, read, read-append}
 use Rattle.std.specs.Prelude.{filter_map, option_to_list, scan, fold as fold_over}
 use Rattle.std.specs.List.{cons_option, filter, list_any, position_or_len}
 use Rattle.std.proofs.lemmas.Bool.{and_parts}

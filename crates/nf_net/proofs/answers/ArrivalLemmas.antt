@@ -1,17 +1,17 @@
 -- The switch takes the packets of the input in their order: those that arrived and those that wait are those that were given. This
 -- holds of each world of a run, beside what holds of it as one (`runs_joined`).
 use Rattle.nf_net.proofs.Words.{◌≡◌, ℕ, zero, suc, ◌+◌, true, false, List, [], ◌∷◌, ◌++◌, map, length, drop, append_assoc, refl, sym, ap, ◌∙◌, arith}
-use Rattle.nf_net.proofs.Words.{if◌then◌else◌, ◌&&◌, ◌==◌, unwrap_or, Global, nat_tests, Packet, FunctionLaws, Semantics, Target, Msg, Note, SwitchState}
-use Rattle.nf_net.proofs.Words.{has_room, is_there, target_of, Choice, Network, IsRun, run, world_next, queue_at, at, opening_waiting, less_first, Config, Node}
-use Rattle.nf_net.proofs.Words.{IsInput, arrivals_in, node_step, node_ready, IsFront, first_nodes, Given, node_of, Scene, AreShown, IsTaken, given}
-use Rattle.nf_net.proofs.Words.{arrived-append, flow_of, Runs, run_beside, runs_next, split}
+use Rattle.nf_net.proofs.Words.{if◌then◌else◌, ◌&&◌, ◌==◌, unwrap_or, nat_tests, Packet, Semantics, Target, Msg, Note, SwitchState}
+use Rattle.nf_net.proofs.Words.{has_room, is_there, target_of, Choice, Network, world_next, queue_at, at, opening_waiting, less_first, Node}
+use Rattle.nf_net.proofs.Words.{arrivals_in, node_step, IsFront, first_nodes, Given, node_of, Scene, AreShown, IsTaken, given}
+use Rattle.nf_net.proofs.Words.{arrived-append, flow_of, Runs, run_beside, runs_next, split, Setting, IsCourse, world_of}
 use Rattle.switch_rules.specs.Rules.{first_match}
 use Rattle.switch_node.specs.Switch.{still, goes_to, on_packet}
 use Rattle.net_world.specs.Input.{packets}
 use Rattle.nf_net.proofs.answers.ArrivalNotes.{is_packet, switch_notes_none, controller_notes_none, instance_notes_none}
 use Rattle.proof_outlines.proofs.whole.SwitchAll.{GoesToTarget}
 use Rattle.net_world.proofs.StartingLemmas.{few_nodes}
-use Rattle.nf_net.proofs.RunKeeps.{RunStep, run_keeps, start}
+use Rattle.nf_net.proofs.RunKeeps.{RunStep, run_keeps}
 
 -- the numbers of an input's packets
 abbrev pub numbers : List Msg → List ℕ
@@ -64,18 +64,19 @@ module _ {F R : Type 0} (f : Semantics R) (g : Given) (n : ℕ) (x : Scene F f g
       let off : (0 == suc (suc i)) ≡ false = grind (arith, nat_tests) in
       rw off (ap (λ v. v ++ numbers x.input) (instance_notes_none f (x.nodes.instance (suc (suc i))) m))
 
-module _ (F : Type 0) {R : Type 0} (f : Semantics R) (laws : FunctionLaws f) (alloc : Global) (c : Config) (items : List Msg)
-    (is : IsInput f.kind c items) where
+module _ {F R : Type 0} (setting : Setting F R) where
+  open setting use {function as f, alloc, config as c, items, is_input as is}
+
   -- those that arrived and those that wait are those that were given
   abbrev InTurn : Network (Node F R) Msg Note → Type 0
   InTurn w = arrivals_in w.log ++ numbers (queue_at w (at 0 0)) ≡ numbers items
 
   -- what holds of each world of a run
   pub record InRun (w : Network (Node F R) Msg Note) : Type 0 where
-    pub runs : Runs F f laws alloc c items is w
+    pub runs : Runs setting w
     pub in_turn : arrivals_in w.log ++ numbers (queue_at w (at 0 0)) ≡ numbers items
 
-  module _ (w : Network (Node F R) Msg Note) (d : Choice) (s : RunStep F f laws alloc c items is w d) (h : InTurn w) where
+  module _ (w : Network (Node F R) Msg Note) (d : Choice) (s : RunStep setting w d) (h : InTurn w) where
     abbrev notes : List Note
     notes = (node_step f (node_of s.runs.joined.nodes d.node) d.port s.taking.message).notes
 
@@ -85,24 +86,19 @@ module _ (F : Type 0) {R : Type 0} (f : Semantics R) (laws : FunctionLaws f) (al
         ∙ ap (λ xs. arrivals_in (w.log ++ notes) ++ numbers xs) s.input
         ∙ ap (λ v. v ++ numbers (less_first ((0 == d.node) && (0 == d.port)) (queue_at w (at 0 0)))) (arrived-append w.log notes)
         ∙ append_assoc (arrivals_in w.log) (arrivals_in notes) (numbers (less_first ((0 == d.node) && (0 == d.port)) (queue_at w (at 0 0))))
-        ∙ ap (λ v. arrivals_in w.log ++ v)
-        (turns f (given f c items is) (length c.names + 2) _ d.node d.port s.taking.message s.runs.joined.shown_is s.taken) ∙ h
+        ∙ ap (λ v. arrivals_in w.log ++ v) (turns f (given setting) (length c.names + 2) _ d.node d.port s.taking.message s.runs.joined.shown_is s.taken) ∙ h
 
     pub next_in_run : InRun (world_next (node_step f) w d)
-    next_in_run = record { runs = runs_next F f laws alloc c items is w d s.taking s.runs; in_turn = turn_after }
+    next_in_run = record { runs = runs_next setting w d s.taking s.runs; in_turn = turn_after }
 
-  abbrev first : Network (Node F R) Msg Note
-  first = start F f laws alloc c items is
-
-  pub runs_joined : (cs : List Choice) → IsRun node_ready (node_step f) cs first → InRun (run (node_step f) cs first)
+  pub runs_joined : (cs : List Choice) → IsCourse setting cs → InRun (world_of setting cs)
   runs_joined cs ok = record {
-    runs = run_beside F f laws alloc c items is cs ok;
-    in_turn = run_keeps F f laws alloc c items is (λ _ w. InTurn w)
-        (ap numbers (opening_waiting Note (first_nodes {F = F} {R = R} alloc c) items
-        (few_nodes {F = F} {R = R} alloc c (first_nodes alloc c) is.is_config refl).0 0 0)) (λ ds so d s. turn_after (run (node_step f) ds first) d s)
+    runs = run_beside setting cs ok;
+    in_turn = run_keeps setting (λ _ w. InTurn w) (ap numbers (opening_waiting Note (first_nodes {F = F} {R = R} alloc c) items
+        (few_nodes {F = F} {R = R} alloc c (first_nodes alloc c) is.is_config refl).0 0 0)) (λ ds so d s. turn_after (world_of setting ds) d s)
         cs ok;
   }
 
   -- the switch takes the packets of the input in their order
-  pub arrivals_run : (cs : List Choice) → IsRun node_ready (node_step f) cs first → IsFront (arrivals_in (run (node_step f) cs first).log) (numbers items)
-  arrivals_run cs ok = record { rest = numbers (queue_at (run (node_step f) cs first) (at 0 0)); whole = (runs_joined cs ok).in_turn }
+  pub arrivals_run : (cs : List Choice) → IsCourse setting cs → IsFront (arrivals_in (world_of setting cs).log) (numbers items)
+  arrivals_run cs ok = record { rest = numbers (queue_at (world_of setting cs) (at 0 0)); whole = (runs_joined cs ok).in_turn }

@@ -1,10 +1,9 @@
 -- What the log says of commands, of every run: each begins and is answered once at most, and what it was refused for, or may begin
 -- by, was true then.
 use Rattle.nf_net.proofs.Words.{◌≡◌, ℕ, ◌+◌, true, false, Option, Some, None, List, [], ◌∷◌, ◌++◌, map, length, refl, sym, ap, ◌∙◌, subst, arith, is_some}
-use Rattle.nf_net.proofs.Words.{Global, nat_cmp, Filter, FunctionLaws, Semantics, Msg, Note, Choice, Network, IsRun, run, queue_at, at, opening_waiting}
-use Rattle.nf_net.proofs.Words.{opening_on_links, Each, Rising, Operation, opened_controller, Config, Node, answers_of, is_begun, has_answered, is_share}
-use Rattle.nf_net.proofs.Words.{times_installed, is_item, commands, order_numbered, IsInput, node_step, node_ready, first_nodes, started_with, all_each, given}
-use Rattle.nf_net.proofs.Words.{count_at_start, Given, Joined, Order, run_beside, split}
+use Rattle.nf_net.proofs.Words.{nat_cmp, Filter, Msg, Note, Choice, Network, queue_at, at, opening_waiting, opening_on_links, Each, Rising, Operation}
+use Rattle.nf_net.proofs.Words.{opened_controller, Node, answers_of, is_begun, has_answered, is_share, times_installed, is_item, commands, order_numbered}
+use Rattle.nf_net.proofs.Words.{first_nodes, all_each, given, count_at_start, Given, Joined, Order, run_beside, split, Setting, start, IsCourse, world_of}
 use Rattle.std.specs.FinMap as finite
 use Rattle.net_world.specs.Commands.{Answers}
 use Rattle.proof_outlines.proofs.joined.StartJoined.{rising_of}
@@ -48,18 +47,19 @@ busy_at_start g waits rising = record {
     none : (op : ℕ) → finite.get (finite.empty {X = Operation} {R = nat_cmp}) op ≡ None
     none op = finite.get-empty nat_cmp op
 
-module _ (F : Type 0) {R : Type 0} (f : Semantics R) (laws : FunctionLaws f) (alloc : Global) (c : Config) (items : List Msg)
-    (is : IsInput f.kind c items) where
+module _ {F R : Type 0} (setting : Setting F R) where
+  open setting use {function as f, alloc, config as c, items, is_input as is}
+
   abbrev g : Given
-  g = given f c items is
+  g = given setting
 
   abbrev first : Network (Node F R) Msg Note
-  first = started_with {F = F} {R = R} alloc c items
+  first = start setting
 
   pub start_busy : Busy {F = F} {R = R} g first
   start_busy =
       let only = all_each (λ item. is_item item ≡ true) items is.only_items in
-      let count = count_at_start F f alloc c items is in
+      let count = count_at_start setting in
       let waits = opening_waiting Note (first_nodes {F = F} {R = R} alloc c) items (omega (arith, count)) in
       let same : map (λ k. k.op) (commands items) ≡ waits_of first = numbers_in items only ∙ ap (λ xs. numbers xs) (sym (waits 0 0))
       ∙ ap (λ xs. numbers xs ++ numbers (queue_at first (at 0 0))) (sym (waits 0 1)) in
@@ -71,21 +71,19 @@ module _ (F : Type 0) {R : Type 0} (f : Semantics R) (laws : FunctionLaws f) (al
       }
 
   -- every run leads to a world of a run in which the open operations are the commands under way
-  pub run_busy : (cs : List Choice) → IsRun node_ready (node_step f) cs first
-      → Joined f g (length c.names + 2) (run (node_step f) cs first) × Busy g (run (node_step f) cs first)
-  run_busy cs run_is = (
-    (run_beside F f laws alloc c items is cs run_is).joined,
-    run_keeps F f laws alloc c items is (λ _ w. Busy g w) start_busy
-        (λ ds ok d s h. busy_next f g (length c.names + 2) refl (run (node_step f) ds first) d s.taking s.runs.joined h) cs run_is,
+  pub run_busy : (cs : List Choice) → IsCourse setting cs → Joined f g (length c.names + 2) (world_of setting cs) × Busy g (world_of setting cs)
+  run_busy cs run_is = ( (run_beside setting cs run_is).joined,
+    run_keeps setting (λ _ w. Busy g w) start_busy
+        (λ ds ok d s h. busy_next f g (length c.names + 2) refl (world_of setting ds) d s.taking s.runs.joined h) cs run_is,
   )
 
   -- and its log says what is promised of commands
-  pub run_answers : (cs : List Choice) → IsRun node_ready (node_step f) cs first → Answers c items (run (node_step f) cs first).log
+  pub run_answers : (cs : List Choice) → IsCourse setting cs → Answers c items (world_of setting cs).log
   run_answers cs run_is =
       let busy = run_busy cs run_is in
       let b = busy.1 in
-      let h = run_installs F f laws alloc c items is cs run_is in
-      let w = run (node_step f) cs first in
+      let h = run_installs setting cs run_is in
+      let w = world_of setting cs in
       record {
         begun_once = λ op. (b.is.answered op).begun_once;
         answered_once = λ op. (b.is.answered op).answered_once;
@@ -97,10 +95,10 @@ module _ (F : Type 0) {R : Type 0} (f : Semantics R) (laws : FunctionLaws f) (al
       }
 
   -- and nothing of a number that no command has
-  pub none_noted : (cs : List Choice) → IsRun node_ready (node_step f) cs first → (op : ℕ) → order_numbered items op ≡ None
-      → (is_begun op (run (node_step f) cs first).log ≡ false) × (answers_of op (run (node_step f) cs first).log ≡ [])
+  pub none_noted : (cs : List Choice) → IsCourse setting cs → (op : ℕ) → order_numbered items op ≡ None
+      → (is_begun op (world_of setting cs).log ≡ false) × (answers_of op (world_of setting cs).log ≡ [])
   none_noted cs run_is op none =
-      let w = run (node_step f) cs first in
+      let w = world_of setting cs in
       let busy = run_busy cs run_is in
       let b = busy.1 in
       let known = (b.is.answered op).known in
@@ -110,9 +108,9 @@ module _ (F : Type 0) {R : Type 0} (f : Semantics R) (laws : FunctionLaws f) (al
       (both.0, none_answered op w.log both.1)
 
   -- and the switch changes no rules for a copy
-  pub no_rules : (cs : List Choice) → IsRun node_ready (node_step f) cs first → (op : ℕ) (source destination : List ℕ) (filter : Option Filter)
-      → order_numbered items op ≡ Some (Order.Copy source destination filter) → times_installed op (run (node_step f) cs first).log ≡ 0
+  pub no_rules : (cs : List Choice) → IsCourse setting cs → (op : ℕ) (source destination : List ℕ) (filter : Option Filter)
+      → order_numbered items op ≡ Some (Order.Copy source destination filter) → times_installed op (world_of setting cs).log ≡ 0
   no_rules cs run_is op source destination filter known =
       let busy = run_busy cs run_is in
-      still_installed f g (length c.names + 2) refl (run (node_step f) cs first) busy.0 busy.1 (run_installs F f laws alloc c items is cs run_is) op
+      still_installed f g (length c.names + 2) refl (world_of setting cs) busy.0 busy.1 (run_installs setting cs run_is) op
       (ap is_moving known) (ap is_share known)

@@ -1,14 +1,13 @@
 -- Where nothing is left to be done, no operation is open but shares that are set up, if no command stands after the input's end.
 use Rattle.nf_net.proofs.Words.{◌≡◌, ◌≢◌, ℕ, zero, suc, ◌+◌, ◌<◌, Bool, true, false, None, List, [], ◌∷◌, ◌++◌, length, get_or, refl, sym, ap, ◌∙◌, subst}
-use Rattle.nf_net.proofs.Words.{arith, if◌then◌else◌, ◌&&◌, ◌==◌, not, Global, nat_tests, Decides-eqb, and_parts, FunctionLaws, Semantics, Msg, Note, Choice}
-use Rattle.nf_net.proofs.Words.{Network, IsRun, is_done, reaches, run, world_next, queue_at, done_node, done_weight, at, opening_waiting, opening_weight, Takes}
-use Rattle.nf_net.proofs.Words.{taken_outcome, EachSent, total, sent_weight, total_after, Each, are_quiet, ControllerState, may_finish, controller_step}
-use Rattle.nf_net.proofs.Words.{opened_controller, SwitchState, switch_step, Config, Node, Switch, Controller, IsInput, is_item, commands, ends_last, node_step}
-use Rattle.nf_net.proofs.Words.{node_ready, node_ended, first_nodes, first_switch, Given, Label, Joined, node_of, known, given, all_labelled, count_at_start}
-use Rattle.nf_net.proofs.Words.{all_each}
+use Rattle.nf_net.proofs.Words.{arith, if◌then◌else◌, ◌&&◌, ◌==◌, not, nat_tests, Decides-eqb, and_parts, Semantics, Msg, Note, Choice, Network, is_done}
+use Rattle.nf_net.proofs.Words.{reaches, world_next, queue_at, done_node, done_weight, at, opening_waiting, opening_weight, Takes, taken_outcome, EachSent}
+use Rattle.nf_net.proofs.Words.{total, sent_weight, total_after, Each, are_quiet, ControllerState, may_finish, controller_step, opened_controller, SwitchState}
+use Rattle.nf_net.proofs.Words.{switch_step, Node, Switch, Controller, is_item, commands, ends_last, node_step, node_ended, first_nodes, first_switch, Given}
+use Rattle.nf_net.proofs.Words.{Label, Joined, node_of, known, given, all_labelled, count_at_start, all_each, Setting, start, IsCourse, world_of}
 use Rattle.std.specs.FinMap as finite
 use Rattle.ctrl_node.specs.Controller as controller
-use Rattle.nf_net.proofs.RunWords.{own_controller, sent_weight-append, run_keeps, start}
+use Rattle.nf_net.proofs.RunWords.{own_controller, sent_weight-append, run_keeps}
 use Rattle.nf_net.proofs.answers.EndTables.{sign_in, no_command, in_order, ordered_behind, IsSettled, quiet_settled, row_ends, sign_at_switch}
 use Rattle.nf_net.proofs.answers.EndTables.{sign_at_controller, flag, switch_closes}
 use Rattle.nf_net.proofs.answers.InstallCounts.{finish}
@@ -154,14 +153,15 @@ signed (Msg.InPacket p ∷ items) ok h = signed items ok.1 h
 signed (Msg.InSettle ∷ items) ok h = signed items ok.1 h
 signed (m ∷ items) ok h = let never : false ≡ true = ok.0 in cc
 
-module _ (F : Type 0) {R : Type 0} (f : Semantics R) (laws : FunctionLaws f) (alloc : Global) (c : Config) (items : List Msg) (is : IsInput f.kind c items)
-    (last : ends_last items ≡ true) where
+module _ {F R : Type 0} (setting : Setting F R) (last : ends_last setting.items ≡ true) where
+  open setting use {function as f, alloc, config as c, items, is_input as is}
+
   abbrev first : Network (Node F R) Msg Note
-  first = start F f laws alloc c items is
+  first = start setting
 
   ends_at_start : Ends first
   ends_at_start =
-      let count = count_at_start F f alloc c items is in
+      let count = count_at_start setting in
       let only = all_each (λ item. is_item item ≡ true) items is.only_items in
       let waits = opening_waiting Note (first_nodes {F = F} {R = R} alloc c) items (omega (arith, count)) in
       let way : picked sign_in items ≡ on_way sign_in first = ap (λ xs. picked sign_in xs) (sym (waits 0 0))
@@ -175,14 +175,14 @@ module _ (F : Type 0) {R : Type 0} (f : Semantics R) (laws : FunctionLaws f) (al
           order = subst (λ xs. in_order xs ≡ true) way (signed items only last);
           ended = λ e. (let never : false ≡ true = e in cc);
           unfinished = λ off. (let all = opening_weight Note (first_nodes {F = F} {R = R} alloc c) items finish in
-              let none = items_none f (given f c items is) None items (all_labelled f c items is) in omega (arith, all, none));
+              let none = items_none f (given setting) None items (all_labelled setting) in omega (arith, all, none));
           finished = λ on. (let never : false ≡ true = on in cc);
         };
       }
 
-  pub run_ends : (cs : List Choice) → IsRun node_ready (node_step f) cs first → Ends (run (node_step f) cs first)
-  run_ends = run_keeps F f laws alloc c items is (λ _ w. Ends w) ends_at_start (λ ds ok d s. ends_after f (given f c items is) (length c.names + 2) refl
-      (run (node_step f) ds first) d.node d.port s.taking.message s.taking.rest s.runs.joined s.takes s.taken.label s.labels)
+  pub run_ends : (cs : List Choice) → IsCourse setting cs → Ends (world_of setting cs)
+  run_ends = run_keeps setting (λ _ w. Ends w) ends_at_start (λ ds ok d s. ends_after f (given setting) (length c.names + 2) refl
+      (world_of setting ds) d.node d.port s.taking.message s.taking.rest s.runs.joined s.takes s.taken.label s.labels)
 
 -- where nothing is left to be done, what is open is settled
 pub all_settled : {F R : Type 0} (w : Network (Node F R) Msg Note) → 0 < length w.nodes → is_done node_ended w ≡ true → (h : Ends w) → (op : ℕ)

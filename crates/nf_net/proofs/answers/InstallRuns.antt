@@ -1,11 +1,10 @@
 -- Of every run, the switch's rules change once for each move that is done and for each share that began, and for no other command.
 use Rattle.nf_net.proofs.Words.{◌≡◌, ◌≢◌, ℕ, zero, suc, ◌+◌, ◌≤◌, Bool, true, false, Option, Some, None, List, [], ◌∷◌, length, get_or, refl, sym, ap, ◌∙◌}
-use Rattle.nf_net.proofs.Words.{subst, arith, if◌then◌else◌, Global, nat_cmp, nat_tests, FunctionLaws, Semantics, Answer, Msg, Note, Choice, Network, IsRun}
-use Rattle.nf_net.proofs.Words.{is_done, reaches, run, world_next, done_weight, at, opening_weight, Takes, taken_outcome, EachSent, total, sent_weight}
-use Rattle.nf_net.proofs.Words.{total_after, Phase, ShareState, Operation, Move, Copy, Share, ControllerState, controller_step, opened_controller, switch_step}
-use Rattle.nf_net.proofs.Words.{Config, Node, Controller, answers_of, times_installed, IsInput, node_step, node_ready, node_ended, first_nodes}
-use Rattle.nf_net.proofs.Words.{answers_of-append, times_installed-append, Given, Label, Joined, node_of, known, instance_quiet, controller_uninstalled, given}
-use Rattle.nf_net.proofs.Words.{all_labelled}
+use Rattle.nf_net.proofs.Words.{subst, arith, if◌then◌else◌, nat_cmp, nat_tests, Semantics, Answer, Msg, Note, Choice, Network, is_done, reaches, world_next}
+use Rattle.nf_net.proofs.Words.{done_weight, at, opening_weight, Takes, taken_outcome, EachSent, total, sent_weight, total_after, Phase, ShareState, Operation}
+use Rattle.nf_net.proofs.Words.{Move, Copy, Share, ControllerState, controller_step, opened_controller, switch_step, Node, Controller, answers_of}
+use Rattle.nf_net.proofs.Words.{times_installed, node_step, node_ended, first_nodes, answers_of-append, times_installed-append, Given, Label, Joined, node_of}
+use Rattle.nf_net.proofs.Words.{known, instance_quiet, controller_uninstalled, given, all_labelled, Setting, start, IsCourse, world_of}
 use Rattle.std.specs.FinMap as finite
 use Rattle.move_op.specs.Phases as phase
 use Rattle.net_world.specs.Commands.{is_share as shares_units}
@@ -19,7 +18,7 @@ use Rattle.nf_net.proofs.answers.InstallSteps.{is_moving, dones, dones-append, d
 use Rattle.nf_net.proofs.answers.InstalledRules.{controller_counts}
 use Rattle.nf_net.proofs.answers.InstallNotes.{no_install_to, none_sent, items_none, switch_notes, none_installed, quiet_installed}
 use Rattle.proof_outlines.proofs.joined.Joined.{count}
-use Rattle.nf_net.proofs.RunKeeps.{run_keeps, start}
+use Rattle.nf_net.proofs.RunKeeps.{run_keeps}
 
 -- the changes that wait and those that the switch noted are those that the controller has sent
 pub record Installs {F R : Type 0} (g : Given) (w : Network (Node F R) Msg Note) : Type 0 where
@@ -227,21 +226,21 @@ module _ {F R : Type 0} (f : Semantics R) (g : Given) (n : ℕ) (count_is : n �
           let never : true ≡ false = sym (ap is_moving plan.order_is) ∙ still in
           cc
 
-module _ (F : Type 0) {R : Type 0} (f : Semantics R) (laws : FunctionLaws f) (alloc : Global) (c : Config) (items : List Msg)
-    (is : IsInput f.kind c items) where
-  installs_at_start : Installs (given f c items is) (start F f laws alloc c items is)
+module _ {F R : Type 0} (setting : Setting F R) where
+  open setting use {function as f, alloc, config as c, items}
+
+  installs_at_start : Installs (given setting) (start setting)
   installs_at_start = record {
     controller = opened_controller c.names c.site;
     controller_is = λ d. refl;
     balance = λ op.
         let none = opening_weight Note (first_nodes {F = F} {R = R} alloc c) items (install op) in
-        let given_none = items_none f (given f c items is) (Some op) items (all_labelled f c items is) in
+        let given_none = items_none f (given setting) (Some op) items (all_labelled setting) in
         let closed : open_in (finite.get (finite.empty {X = Operation} {R = nat_cmp}) op) ≡ 0 = ap open_in (finite.get-empty nat_cmp op) in
         omega (arith, none, given_none, closed);
   }
 
-  pub run_installs : (cs : List Choice) → IsRun node_ready (node_step f) cs (start F f laws alloc c items is)
-      → Installs (given f c items is) (run (node_step f) cs (start F f laws alloc c items is))
-  run_installs = run_keeps F f laws alloc c items is (λ _ w. Installs (given f c items is) w) installs_at_start (λ ds ok d s.
-      installs_after f (given f c items is) (length c.names + 2) (run (node_step f) ds (start F f laws alloc c items is)) d.node d.port s.taking.message
+  pub run_installs : (cs : List Choice) → IsCourse setting cs → Installs (given setting) (world_of setting cs)
+  run_installs = run_keeps setting (λ _ w. Installs (given setting) w) installs_at_start (λ ds ok d s.
+      installs_after f (given setting) (length c.names + 2) (world_of setting ds) d.node d.port s.taking.message
       s.taking.rest s.runs.joined s.takes s.taken.label s.labels)

@@ -2,10 +2,9 @@
 use Rattle.nf_net.proofs.Words.{◌≡◌, ℕ, ◌+◌, Bool, true, false, cond, Option, Some, None, List, [], ◌∷◌, ◌++◌, refl, sym, ap, ◌∙◌, subst, arith, map}
 use Rattle.nf_net.proofs.Words.{if◌then◌else◌, ◌==◌, nat_tests, Decides-eqb, Filter, Semantics, FullCell, Answer, Order, Msg, instance_node, Keeping, CopyState}
 use Rattle.nf_net.proofs.Words.{SharePlan, ShareState, MoveState, MoveRow, row_in, move_at_start, answer_of, stored_of, Operation, Move, Copy, Share, turn_of}
-use Rattle.nf_net.proofs.Words.{turn_of_move, ControllerState, on_asked, on_diverted, after_turn, takes_turn, hand_step, unknown_name, overlap}
-use Rattle.nf_net.proofs.Words.{step_and_finish, controller_step, reaches, sent_weight, answers_of, row_by, got_insert, got_remove, gone_twice, NotShared}
-use Rattle.nf_net.proofs.Words.{CopyTurn, Idle, Hands, Hands_all, Ends, hands, copy_turns, answered, noted, Given, IsPlan, IsCopyPlan, Label, Action, Mark}
-use Rattle.nf_net.proofs.Words.{Note, Done, split}
+use Rattle.nf_net.proofs.Words.{turn_of_move, ControllerState, on_asked, on_diverted, after_turn, takes_turn, hand_step, unknown_name, overlap, step_and_finish}
+use Rattle.nf_net.proofs.Words.{controller_step, reaches, sent_weight, answers_of, row_by, got_insert, got_remove, gone_twice, NotShared, CopyTurn, Idle, Hands}
+use Rattle.nf_net.proofs.Words.{Hands_all, Ends, hands, copy_turns, answered, noted, Given, IsPlan, IsCopyPlan, Label, Action, Mark, Note, Done, split}
 use Rattle.std.specs.FinMap as finite
 use Rattle.copy_share.specs.Copy as copy
 use Rattle.copy_share.specs.Share as share

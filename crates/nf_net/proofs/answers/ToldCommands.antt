@@ -1,13 +1,13 @@
 -- No command is lost: each of the input waits still, or the log says that it began or was answered. So in a complete run each is answered.
 use Rattle.nf_net.proofs.Words.{◌≡◌, ℕ, zero, suc, ◌+◌, ◌≤◌, Bool, true, false, Option, Some, None, List, [], ◌∷◌, ◌++◌, length, refl, sym, ap, ◌∙◌, subst}
-use Rattle.nf_net.proofs.Words.{arith, if◌then◌else◌, ◌&&◌, ◌||◌, ◌==◌, not, nat_lt, find, is_some, option_map, filter_map, option_or, Global, nat_tests}
-use Rattle.nf_net.proofs.Words.{Decides-eqb, Decides-ltb, and_parts, Filter, FunctionLaws, Semantics, Answer, Unknown, Overlap, Order, Msg, Note, Choice}
-use Rattle.nf_net.proofs.Words.{Network, IsRun, is_done, reaches, run, world_next, done_weight, at, opening_weight, Takes, taken_outcome, weigh, total}
+use Rattle.nf_net.proofs.Words.{arith, if◌then◌else◌, ◌&&◌, ◌||◌, ◌==◌, not, nat_lt, find, is_some, option_map, filter_map, option_or, nat_tests}
+use Rattle.nf_net.proofs.Words.{Decides-eqb, Decides-ltb, and_parts, Filter, Semantics, Answer, Unknown, Overlap, Order, Msg, Note, Choice}
+use Rattle.nf_net.proofs.Words.{Network, is_done, reaches, world_next, done_weight, at, opening_weight, Takes, taken_outcome, weigh, total}
 use Rattle.nf_net.proofs.Words.{sent_weight, total_after, Operation, Move, Copy, Share, ControllerState, refusal, unknown_name, overlap, move_between}
-use Rattle.nf_net.proofs.Words.{copy_between, share_begin, begin_step, decision_step, on_asked, controller_step, place_of, SwitchState, switch_step, Config}
-use Rattle.nf_net.proofs.Words.{Node, Controller, is_begun, has_answered, is_share, keeps_off, answers_of, IsInput, commands, order_numbered, ends_last}
-use Rattle.nf_net.proofs.Words.{node_step, node_ready, node_ended, first_nodes, started_with, answers_in, has_begun-append, has_answered-append, is_whole}
-use Rattle.nf_net.proofs.Words.{Given, Label, Joined, node_of, names_known, given, Done, split}
+use Rattle.nf_net.proofs.Words.{copy_between, share_begin, begin_step, decision_step, on_asked, controller_step, place_of, SwitchState, switch_step}
+use Rattle.nf_net.proofs.Words.{Node, Controller, is_begun, has_answered, is_share, keeps_off, answers_of, commands, order_numbered, ends_last}
+use Rattle.nf_net.proofs.Words.{node_step, node_ended, first_nodes, answers_in, has_begun-append, has_answered-append, is_whole}
+use Rattle.nf_net.proofs.Words.{Given, Label, Joined, node_of, names_known, given, Done, split, Setting, start, IsCourse, world_of}
 use Rattle.std.specs.FinMap as finite
 use Rattle.ctrl_node.specs.Controller as controller
 use Rattle.ctrl_node.specs.Controller.{Step, still}
@@ -204,32 +204,32 @@ closed_answered false s false e h = absurd (omega (arith, h))
 pub some_answers : (op : ℕ) (log : List Note) → has_answered op log ≡ true → 1 ≤ length (answers_of op log)
 some_answers op log h = some_kept (λ one. one.0 == op) (λ one. one.1) (answers_in log) h
 
-module _ (F : Type 0) {R : Type 0} (f : Semantics R) (laws : FunctionLaws f) (alloc : Global) (c : Config) (items : List Msg)
-    (is : IsInput f.kind c items) where
-  abbrev start : Network (Node F R) Msg Note
-  start = started_with {F = F} {R = R} alloc c items
+module _ {F R : Type 0} (setting : Setting F R) where
+  open setting use {function as f, alloc, config as c, items, is_input as is}
+
+  abbrev first : Network (Node F R) Msg Note
+  first = start setting
 
   abbrev g : Given
-  g = given f c items is
+  g = given setting
 
-  told_at_start : Told items start
+  told_at_start : Told items first
   told_at_start op some = let all = opening_weight Note (first_nodes {F = F} {R = R} alloc c) items (told op) in omega (arith, all, some)
 
-  pub run_told : (cs : List Choice) → IsRun node_ready (node_step f) cs start → Told items (run (node_step f) cs start)
-  run_told = run_keeps F f laws alloc c items is (λ _ w. Told items w) told_at_start (λ ds ok d s. told_after f g (length c.names + 2) refl items
-      (run (node_step f) ds start) d.node d.port s.taking.message s.taking.rest s.runs.joined s.takes s.taken.label
-      (run_busy F f laws alloc c items is ds ok).1)
+  pub run_told : (cs : List Choice) → IsCourse setting cs → Told items (world_of setting cs)
+  run_told = run_keeps setting (λ _ w. Told items w) told_at_start (λ ds ok d s. told_after f g (length c.names + 2) refl items
+      (world_of setting ds) d.node d.port s.taking.message s.taking.rest s.runs.joined s.takes s.taken.label (run_busy setting ds ok).1)
 
   -- in a complete run each command is answered, if none stands behind the input's end
-  pub each_answered : ends_last items ≡ true → (cs : List Choice) → IsRun node_ready (node_step f) cs start
-      → is_done node_ended (run (node_step f) cs start) ≡ true → (op : ℕ) (what : Order) → order_numbered items op ≡ Some what
-      → length (answers_of op (run (node_step f) cs start).log) ≡ 1
+  pub each_answered : ends_last items ≡ true → (cs : List Choice) → IsCourse setting cs
+      → is_done node_ended (world_of setting cs) ≡ true → (op : ℕ) (what : Order) → order_numbered items op ≡ Some what
+      → length (answers_of op (world_of setting cs).log) ≡ 1
   each_answered last cs run_is done op what known =
-      let w = run (node_step f) cs start in
-      let busy = run_busy F f laws alloc c items is cs run_is in
+      let w = world_of setting cs in
+      let busy = run_busy setting cs run_is in
       let j = busy.0 in
-      let ends = run_ends F f laws alloc c items is last cs run_is in
-      let count = (after_world F f laws alloc c items is cs run_is).1 in
+      let ends = run_ends setting last cs run_is in
+      let count = (after_world setting cs run_is).1 in
       let waits = run_told cs run_is op (listed op items what known) in
       let nothing = done_weight node_ended w done (told op) in
       let same : ends.controller ≡ j.nodes.controller = own_controller j (omega arith) ends.controller ends.controller_is in

@@ -1,13 +1,13 @@
 -- In every run the input's end goes round: from the input to the controller, from there as the finish to the switch, from there as stops to the instances, and
 -- back as their answers. So where no message is on a link, and nothing is in the input, all nodes have ended, if all is quiet at the controller.
 use Rattle.nf_net.proofs.Words.{◌≡◌, ◌≢◌, inl, inr, ℕ, zero, suc, ◌+◌, ◌<◌, ◌≤◌, Bool, true, false, None, List, [], ◌∷◌, length, length-append, get_or, refl}
-use Rattle.nf_net.proofs.Words.{sym, ap, ◌∙◌, subst, arith, if◌then◌else◌, ◌&&◌, ◌==◌, Global, nat_tests, Decides-eqb, length-map, Each, each-append, Fits}
+use Rattle.nf_net.proofs.Words.{sym, ap, ◌∙◌, subst, arith, if◌then◌else◌, ◌&&◌, ◌==◌, nat_tests, Decides-eqb, length-map, Each, each-append, Fits}
 use Rattle.nf_net.proofs.Words.{FunctionLaws, Semantics, Msg, Note, instance_node, ControllerState, may_finish, controller_step, opened_controller, SwitchState}
-use Rattle.nf_net.proofs.Words.{switch_step, InstanceState, instance_step, Choice, Network, IsRun, reaches, run, world_next, queue_at, at, put_on_link}
-use Rattle.nf_net.proofs.Words.{opening_weight, Takes, taken_outcome, weigh, total, total_after, Config, Node, Switch, Controller, IsInput, node_step}
-use Rattle.nf_net.proofs.Words.{node_ready, node_ended, first_nodes, first_switch, first_instance, first_instances, Given, Label, Joined, node_of, given}
-use Rattle.nf_net.proofs.Words.{all_fit, Instance, split}
-use Rattle.nf_net.proofs.RunWords.{own_controller, flag, run_keeps, start}
+use Rattle.nf_net.proofs.Words.{switch_step, InstanceState, instance_step, Choice, Network, reaches, world_next, queue_at, at, put_on_link}
+use Rattle.nf_net.proofs.Words.{opening_weight, Takes, taken_outcome, weigh, total, total_after, Node, Switch, Controller, node_step}
+use Rattle.nf_net.proofs.Words.{node_ended, first_nodes, first_switch, first_instance, first_instances, Given, Label, Joined, node_of, given}
+use Rattle.nf_net.proofs.Words.{all_fit, Instance, split, Setting, start, IsCourse, world_of}
+use Rattle.nf_net.proofs.RunWords.{own_controller, flag, run_keeps}
 use Rattle.nf_net.proofs.answers.InstallCounts.{finish}
 use Rattle.nf_net.proofs.answers.InstallNotes.{no_install_to}
 use Rattle.proof_outlines.proofs.joined.Joined.{count}
@@ -286,12 +286,13 @@ end_weighs [] = omega arith
 end_weighs (Msg.InEnd ∷ items) = let rest = end_weighs items in omega (arith, rest)
 end_weighs (m ∷ items) = let rest = end_weighs items in omega (arith, rest)
 
-module _ (F : Type 0) {R : Type 0} (f : Semantics R) (laws : FunctionLaws f) (alloc : Global) (c : Config) (items : List Msg) (is : IsInput f.kind c items)
-    (some_end : 1 ≤ ends items) where
+module _ {F R : Type 0} (setting : Setting F R) (some_end : 1 ≤ ends setting.items) where
+  open setting use {function as f, laws, alloc, config as c, items}
+
   abbrev nodes : ℕ
   nodes = length c.names + 2
 
-  -- no instance has ended at the (start F f laws alloc c items is)
+  -- no instance has ended at the (start setting)
   none_ended : (i k : ℕ) → k < i → (d : Node F R) → node_ended (get_or (first_instances {F = F} {R = R} alloc c i) k d) ≡ false
   none_ended i k less d = each_at (λ x. node_ended x ≡ false) (first_instances {F = F} {R = R} alloc c i) (all_of i) k (omega (arith, less, length-first i)) d
     where
@@ -306,7 +307,7 @@ module _ (F : Type 0) {R : Type 0} (f : Semantics R) (laws : FunctionLaws f) (al
           let rest = length-first i in
           let both = length-append (first_instances {F = F} {R = R} alloc c i) (Instance (first_instance alloc c i) ∷ []) in omega (arith, rest, both)
 
-  ending_at_start : HasEnding nodes (start F f laws alloc c items is)
+  ending_at_start : HasEnding nodes (start setting)
   ending_at_start = record {
     switch = first_switch c;
     switch_is = λ d. refl;
@@ -321,9 +322,6 @@ module _ (F : Type 0) {R : Type 0} (f : Semantics R) (laws : FunctionLaws f) (al
     finals = λ i low d over. (let none = none_ended (length c.names) i (omega (arith, low)) d in let never : false ≡ true = sym none ∙ over in cc);
   }
 
-  pub run_ending : (cs : List Choice) → IsRun node_ready (node_step f) cs (start F f laws alloc c items is) → HasEnding nodes
-      (run (node_step f) cs (start F f laws alloc c items is))
-  run_ending = run_keeps F f laws alloc c items is (λ _ w. HasEnding nodes w) ending_at_start (λ ds ok d s h. ending_after f laws (given f c items is)
-      (all_fit f c items is) nodes refl
-      (run (node_step f) ds (start F f laws alloc c items is)) s.runs.joined d.port s.taking.message s.taking.rest h d.node s.takes s.taken.label
-      (run_enough F f laws alloc c items is ds ok))
+  pub run_ending : (cs : List Choice) → IsCourse setting cs → HasEnding nodes (world_of setting cs)
+  run_ending = run_keeps setting (λ _ w. HasEnding nodes w) ending_at_start (λ ds ok d s h. ending_after f laws (given setting) (all_fit setting) nodes refl
+      (world_of setting ds) s.runs.joined d.port s.taking.message s.taking.rest h d.node s.takes s.taken.label (run_enough setting ds ok))

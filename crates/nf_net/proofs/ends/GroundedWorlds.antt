@@ -1,10 +1,10 @@
 -- Where no message is on a link no packet is under way: each unit that came rests, with all its packets processed.
 use Rattle.nf_net.proofs.Words.{◌≡◌, ℕ, ◌+◌, ◌<◌, ◌≤◌, true, false, List, [], ◌∷◌, ◌++◌, map, length, append-nil, refl, sym, ap, ◌∙◌, subst, arith}
-use Rattle.nf_net.proofs.Words.{filter-append, if◌then◌else◌, ◌&&◌, ◌==◌, nat_lt, filter, Packet, Semantics, unit_at, same_unit-true, Target, Msg, Note}
+use Rattle.nf_net.proofs.Words.{filter-append, if◌then◌else◌, ◌&&◌, ◌==◌, nat_lt, filter, Packet, unit_at, same_unit-true, Target, Msg, Note}
 use Rattle.nf_net.proofs.Words.{is_there, Network, IsWorld, queue_at, at, Each, firsts, nil_right, same_of, none_in, IsSys, AtEnd, OpenShare, moves_of, EndsAll}
-use Rattle.nf_net.proofs.Words.{At_share, ShareRests, end_all, Config, Node, Switch, packet_numbered, IsInput, arrivals_in, is_loose, is_of, arrived_of}
+use Rattle.nf_net.proofs.Words.{At_share, ShareRests, end_all, Node, Switch, packet_numbered, arrivals_in, is_loose, is_of, arrived_of}
 use Rattle.nf_net.proofs.Words.{processed_of, is_sys, target_node, Given, Label, GenuinePacket, S, A, came_by, Joined, done_same, same_times, given, genuine}
-use Rattle.nf_net.proofs.Words.{silent_total, Unit, flow_of, split}
+use Rattle.nf_net.proofs.Words.{silent_total, Unit, flow_of, split, Setting}
 use Rattle.actor_net.proofs.WeightLaws as weights
 use Rattle.proof_machines.proofs.unit.Stages as stages
 use Rattle.proof_machines.proofs.whole.EndAll.{As_moves}
@@ -16,12 +16,14 @@ use Rattle.nf_net.proofs.PacketCounts.{few_done, few_came}
 use Rattle.nf_net.proofs.WindowRuns.{InWindow, items_none}
 use Rattle.nf_net.proofs.ends.NoMoves.{quiet_links}
 
-module _ {F R : Type 0} (f : Semantics R) (c : Config) (items : List Msg) (is : IsInput f.kind c items)
-    (n : ℕ) (count : n ≡ length c.names + 2) (w : Network (Node F R) Msg Note) (nodes : length w.nodes ≡ n)
-    (j : Joined f (given f c items is) n w) (in_turn : arrivals_in w.log ++ numbers (queue_at w (at 0 0)) ≡ numbers items)
+module _ {F R : Type 0} (setting : Setting F R) (n : ℕ) (count : n ≡ length setting.config.names + 2) (w : Network (Node F R) Msg Note)
+    (nodes : length w.nodes ≡ n) (j : Joined setting.function (given setting) n w)
+    (in_turn : arrivals_in w.log ++ numbers (queue_at w (at 0 0)) ≡ numbers setting.items)
     (silent : (s r : ℕ) → (r == 0) && (s == 0) ≡ false → queue_at w (at r s) ≡ []) where
+  open setting use {function as f, config as c, items}
+
   abbrev g : Given
-  g = given f c items is
+  g = given setting
 
   abbrev laws_of : IsSys (S f g)
   laws_of = is_sys f g.site g.packet
@@ -61,11 +63,11 @@ module _ {F R : Type 0} (f : Semantics R) (c : Config) (items : List Msg) (is : 
           by_list : (ps : List ℕ) → arrived_of f c items u w.log ≡ ps → e.left ≡ []
           by_list [] k = nil_right (firsts e.ran) e.left (none_in (firsts e.ran ++ e.left)
               (λ p. same_of e.flag (firsts e.ran ++ e.left) (arrived_of f c items u w.log) e.order p ∙ ap (stages.times p) k))
-          by_list (p ∷ ps) k = e.none (target_there e.two (packets items) (genuine f c items is) p
+          by_list (p ∷ ps) k = e.none (target_there e.two (packets items) (genuine setting) p
               (ps ++ filter (is_of f c items u) (numbers (queue_at w (at 0 0)))) (given_first p ps k))
 
       went_is : firsts e.ran ++ e.left ≡ processed_of f c items u w.log
-      went_is = ap (λ xs. firsts e.ran ++ xs) left_none ∙ append-nil (firsts e.ran) ∙ sym e.done ∙ done_same f c items is n w j u
+      went_is = ap (λ xs. firsts e.ran ++ xs) left_none ∙ append-nil (firsts e.ran) ∙ sym e.done ∙ done_same setting n w j u
 
       moves_went : (p : ℕ) → times p (processed_of f c items u w.log) ≡ times p (arrived_of f c items u w.log)
       moves_went p = sym (same_times p (processed_of f c items u w.log)) ∙ ap (stages.times p) (sym went_is)
@@ -73,13 +75,13 @@ module _ {F R : Type 0} (f : Semantics R) (c : Config) (items : List Msg) (is : 
 
     shares_went : (e : OpenShare) → ShareRests (S f g) (A f g) laws_of u n j.world (came_by f g w.log u) e → (p : ℕ)
         → times p (processed_of f c items u w.log) ≡ times p (arrived_of f c items u w.log)
-    shares_went e s p = sym (same_times p (processed_of f c items u w.log)) ∙ ap (stages.times p) (sym (done_same f c items is n w j u))
+    shares_went e s p = sym (same_times p (processed_of f c items u w.log)) ∙ ap (stages.times p) (sym (done_same setting n w j u))
         ∙ same_of s.flag _ (arrived_of f c items u w.log) s.order p ∙ same_times p (arrived_of f c items u w.log)
 
     -- each packet that came was processed
     all_went : (p : ℕ) → times p (processed_of f c items u w.log) ≡ times p (arrived_of f c items u w.log)
     all_went = by_end (end_all (S f g) (A f g) laws_of u n j.world (omega (arith, count)) (quiet_links f g n count w j silent)
-        (sides f c items is n count w j) (members_few f c items is n count w j) (came_by f g w.log u) (j.shown_is.every.unit u))
+        (sides setting n count w j) (members_few setting n count w j) (came_by f g w.log u) (j.shown_is.every.unit u))
       where
         by_end : EndsAll (S f g) (A f g) laws_of u n j.world (came_by f g w.log u) → (p : ℕ)
             → times p (processed_of f c items u w.log) ≡ times p (arrived_of f c items u w.log)
@@ -103,6 +105,6 @@ module _ {F R : Type 0} (f : Semantics R) (c : Config) (items : List Msg) (is : 
           let balance = h.balance in
           let credits = silent_total w world silent credit in
           let input : weights.weigh credit w.input ≡ 0 = items_none f g (queue_at w (at 0 0)) input_label in
-          let few = few_done f c items is n w j in
+          let few = few_done setting n w j in
           let many = few_came f c items w.log all_went in
           omega (arith, balance, credits, input, few, many)

@@ -1,9 +1,8 @@
 -- A world of a run in which no choice is enabled is complete, where the input has an end: each phase that waits has a message on a link, and what the switch
 -- waits for is under way.
-use Rattle.nf_net.proofs.Words.{◌≡◌, inl, inr, ℕ, ◌+◌, ◌≤◌, true, false, List, [], length, refl, sym, ◌∙◌, arith, ◌&&◌, ◌==◌}
-use Rattle.nf_net.proofs.Words.{Global, Decides-eqb, Decides-ltb, FunctionLaws, Semantics, Msg, Note, MOST_WAITING, SwitchState, takes_in}
-use Rattle.nf_net.proofs.Words.{Choice, MOST_CHOICES, Network, IsWorld, IsRun, is_done, run, queue_at, StopsShort, at, Config, Node, Switch, IsInput, node_step}
-use Rattle.nf_net.proofs.Words.{node_ready, node_ended, started_with, Joined, given, IsShort, run_beside}
+use Rattle.nf_net.proofs.Words.{◌≡◌, inl, inr, ℕ, ◌+◌, ◌≤◌, true, false, List, [], length, refl, sym, ◌∙◌, arith, ◌&&◌, ◌==◌, Decides-eqb, Decides-ltb, Msg}
+use Rattle.nf_net.proofs.Words.{Note, MOST_WAITING, SwitchState, takes_in, Choice, MOST_CHOICES, Network, IsWorld, is_done, queue_at, StopsShort, at, Node}
+use Rattle.nf_net.proofs.Words.{Switch, node_ready, node_ended, Joined, given, IsShort, run_beside, Setting, IsCourse, world_of}
 use Rattle.actor_net.specs.Schedules.{enabled_choices}
 use Rattle.actor_net.proofs.DisabledChoices.{stuck_links}
 use Rattle.nf_net.proofs.RunWords.{runs_joined, run_busy, after_world}
@@ -26,32 +25,28 @@ takes_all s (Msg.InCommand k) flying cells waits = (Decides-ltb s.waiting MOST_W
 takes_all s Msg.InSettle flying cells waits = (Decides-eqb s.waiting 0).1 waits
 takes_all s m flying cells waits = refl
 
-module _ (F : Type 0) {R : Type 0} (f : Semantics R) (laws : FunctionLaws f) (alloc : Global) (c : Config) (items : List Msg) (is : IsInput f.kind c items)
-    (some_end : 1 ≤ ends items) where
-  abbrev start : Network (Node F R) Msg Note
-  start = started_with {F = F} {R = R} alloc c items
+module _ {F R : Type 0} (setting : Setting F R) (some_end : 1 ≤ ends setting.items) where
+  open setting use {function as f, config as c, is_input as is}
 
-  module _ (cs : List Choice) (run_is : IsRun node_ready (node_step f) cs start) (none : enabled_choices node_ready (run (node_step f) cs start) ≡ []) where
+  module _ (cs : List Choice) (run_is : IsCourse setting cs) (none : enabled_choices node_ready (world_of setting cs) ≡ []) where
     abbrev w : Network (Node F R) Msg Note
-    w = run (node_step f) cs start
+    w = world_of setting cs
 
     reached : IsWorld w × (length w.nodes ≡ (length c.names + 2))
-    reached = after_world F f laws alloc c items is cs run_is
+    reached = after_world setting cs run_is
 
     silent : (s r : ℕ) → (r == 0) && (s == 0) ≡ false → queue_at w (at r s) ≡ []
     silent = stuck_links node_ready w reached.0 none
 
-    joined : Joined f (given f c items is) (length c.names + 2) w
-    joined = (run_beside F f laws alloc c items is cs run_is).joined
+    joined : Joined f (given setting) (length c.names + 2) w
+    joined = (run_beside setting cs run_is).joined
 
     rests : (joined.nodes.switch.flying ≡ 0) × (joined.nodes.switch.pool.cells ≡ c.window)
-    rests = grounded f c items is (length c.names + 2) refl w reached.1 joined (runs_joined F f laws alloc c items is cs run_is).in_turn silent reached.0
-        (in_window F f laws alloc c items is cs run_is)
+    rests = grounded setting (length c.names + 2) refl w reached.1 joined (runs_joined setting cs run_is).in_turn silent reached.0 (in_window setting cs run_is)
 
     nothing_waits : joined.nodes.switch.waiting ≡ 0
-    nothing_waits = none_waits f c items is (length c.names + 2) refl w reached.0 reached.1 joined (run_busy F f laws alloc c items is cs run_is).1
-        (run_enough F f laws alloc
-        c items is cs run_is) (run_settles F f laws alloc c items is cs run_is).counted (run_told F f laws alloc c items is cs run_is) silent
+    nothing_waits = none_waits setting (length c.names + 2) refl w reached.0 reached.1 joined (run_busy setting cs run_is).1
+        (run_enough setting cs run_is) (run_settles setting cs run_is).counted (run_told setting cs run_is) silent
 
     -- so nothing is in the input
     input_empty : w.input ≡ []
@@ -60,25 +55,24 @@ module _ (F : Type 0) {R : Type 0} (f : Semantics R) (laws : FunctionLaws f) (al
         (λ m. takes_all joined.nodes.switch m rests.0 (omega (arith, rests.1, is.is_config.window.0)) nothing_waits)
 
     pub no_stuck_world : is_done node_ended w ≡ true
-    no_stuck_world = all_done w reached.0 silent node_ended input_empty
-        (nodes_ended f (given f c items is) (length c.names + 2) refl w reached.0 reached.1 joined
-        (run_enough F f laws alloc c items is cs run_is) silent (run_ending F f laws alloc c items is some_end cs run_is) input_empty rests.0)
+    no_stuck_world = all_done w reached.0 silent node_ended input_empty (nodes_ended f (given setting) (length c.names + 2) refl w reached.0 reached.1 joined
+        (run_enough setting cs run_is) silent (run_ending setting some_end cs run_is) input_empty rests.0)
 
   -- a schedule that stops short took all choices that it may take
-  pub short_is_long : (cs : List Choice) → IsRun node_ready (node_step f) cs start → (count : ℕ)
-      → StopsShort node_ready node_ended (run (node_step f) cs start) count → count ≡ MOST_CHOICES
+  pub short_is_long : (cs : List Choice) → IsCourse setting cs → (count : ℕ)
+      → StopsShort node_ready node_ended (world_of setting cs) count → count ≡ MOST_CHOICES
   short_is_long cs run_is count short = elim short.stuck as (λ _. count ≡ MOST_CHOICES) [
     | inl none ↦ (let never : false ≡ true = sym short.incomplete ∙ no_stuck_world cs run_is none in cc)
     | inr most ↦ most
   ]
 
 -- and of a short input none stops short
-module _ (F : Type 0) {R : Type 0} (f : Semantics R) (laws : FunctionLaws f) (alloc : Global) (c : Config) (items : List Msg)
-    (is : IsInput f.kind c items) where
-  pub never_short : IsShort items → (cs : List Choice) → IsRun node_ready (node_step f) cs (started_with {F = F} {R = R} alloc c items)
-      → StopsShort node_ready node_ended (run (node_step f) cs (started_with {F = F} {R = R} alloc c items)) (length cs) → ⊥
+module _ {F R : Type 0} (setting : Setting F R) where
+  open setting use {items}
+
+  pub never_short : IsShort items → (cs : List Choice) → IsCourse setting cs → StopsShort node_ready node_ended (world_of setting cs) (length cs) → ⊥
   never_short short cs run_is stops =
       let once = (Decides-eqb (ends items) 1).0 short.ended in
-      let all = short_is_long F f laws alloc c items is (omega (arith, once)) cs run_is (length cs) stops in
-      let few = short_runs F f laws alloc c items is short cs run_is in
+      let all = short_is_long setting (omega (arith, once)) cs run_is (length cs) stops in
+      let few = short_runs setting short cs run_is in
       omega (arith, all, few)

@@ -1,17 +1,17 @@
 -- In every run each open copy and share has on the links what it waits for: so where no message is on a link no copy is open, and each share is idle.
 use Rattle.nf_net.proofs.Words.{◌≡◌, ◌≢◌, ℕ, zero, suc, ◌+◌, ◌<◌, ◌≤◌, true, false, Option, Some, None, List, [], ◌∷◌, length, get_or, refl, sym, ap, ◌∙◌}
-use Rattle.nf_net.proofs.Words.{subst, arith, ◌&&◌, ◌==◌, nat_lt, Global, nat_cmp, nat_tests, Decides-ltb, Chunk, Fits, FunctionLaws, Semantics, IsTally, Msg}
+use Rattle.nf_net.proofs.Words.{subst, arith, ◌&&◌, ◌==◌, nat_lt, nat_cmp, nat_tests, Decides-ltb, Chunk, Fits, FunctionLaws, Semantics, IsTally, Msg}
 use Rattle.nf_net.proofs.Words.{Note, instance_node, CopyPhase, SharePhase, Operation, Move, Copy, Share, ControllerState, controller_step, opened_controller}
-use Rattle.nf_net.proofs.Words.{switch_step, instance_step, Choice, Network, IsRun, reaches, run, world_next, queue_at, at, opening_on_links, Taking, Takes}
-use Rattle.nf_net.proofs.Words.{taken_outcome, OnLinks, EachSent, on_links_after, Each, each-append, each_map, Config, Node, Controller, IsInput, node_step}
+use Rattle.nf_net.proofs.Words.{switch_step, instance_step, Choice, Network, reaches, world_next, queue_at, at, opening_on_links, Taking, Takes}
+use Rattle.nf_net.proofs.Words.{taken_outcome, OnLinks, EachSent, on_links_after, Each, each-append, each_map, Node, Controller, node_step}
 use Rattle.nf_net.proofs.Words.{node_ready, first_instance, first_instances, first_nodes, is_uncopied, TurnSo, Given, Label, Joined, node_of, its_takes}
-use Rattle.nf_net.proofs.Words.{its_label, Runs, given, all_fit, count_at_start, Instance, split}
+use Rattle.nf_net.proofs.Words.{its_label, Runs, given, all_fit, count_at_start, Instance, split, Setting, start, IsCourse, world_of}
 use Rattle.std.proofs.Common.{replicate, slice_index}
 use Rattle.std.specs.FinMap as finite
 use Rattle.std.proofs.lemmas.List.{length-replicate}
 use Rattle.copy_share.specs.Copy as copy
 use Rattle.actor_net.proofs.WeightLaws as weights
-use Rattle.nf_net.proofs.RunWords.{own_controller, flag, run_keeps, start}
+use Rattle.nf_net.proofs.RunWords.{own_controller, flag, run_keeps}
 use Rattle.proof_outlines.proofs.joined.CopySends.{BeginSo, controller_sent}
 use Rattle.proof_outlines.proofs.joined.Joined.{count}
 use Rattle.nf_net.proofs.ends.LinkWeights.{sends_weigh, at_links, at_links_same, at_links_none, at_links_after, taken_least}
@@ -238,8 +238,9 @@ each_at P [] h i less d = absurd (omega (arith, less))
 each_at P (x ∷ xs) h zero less d = h.0
 each_at P (x ∷ xs) h (suc i) less d = each_at P xs h.1 i (omega (arith, less)) d
 
-module _ (F : Type 0) {R : Type 0} (f : Semantics R) (laws : FunctionLaws f) (alloc : Global) (c : Config) (items : List Msg)
-    (is : IsInput f.kind c items) where
+module _ {F R : Type 0} (setting : Setting F R) where
+  open setting use {function as f, laws, alloc, config as c, items}
+
   abbrev nodes : ℕ
   nodes = length c.names + 2
 
@@ -252,9 +253,9 @@ module _ (F : Type 0) {R : Type 0} (f : Semantics R) (laws : FunctionLaws f) (al
   items_way [] = tt
   items_way (m ∷ ms) = (from_switch f 0 m, items_way ms)
 
-  pub enough_at_start : HasEnough f nodes (start F f laws alloc c items is)
+  pub enough_at_start : HasEnough f nodes (start setting)
   enough_at_start =
-      let count = count_at_start F f alloc c items is in
+      let count = count_at_start setting in
       record {
         controller = opened_controller c.names c.site;
         controller_is = λ d. refl;
@@ -265,18 +266,16 @@ module _ (F : Type 0) {R : Type 0} (f : Semantics R) (laws : FunctionLaws f) (al
             (omega (arith, count, low)) d;
       }
 
-  pub enough_next : (w : Network (Node F R) Msg Note) (k : Choice) → Taking node_ready (node_step f) nodes w k → Runs F f laws alloc c items is w
+  pub enough_next : (w : Network (Node F R) Msg Note) (k : Choice) → Taking node_ready (node_step f) nodes w k → Runs setting w
       → HasEnough f nodes w → HasEnough f nodes (world_next (node_step f) w k)
   enough_next w k t r h =
-      let g : Given = given f c items is in
-      let fitting = all_fit f c items is in
+      let g : Given = given setting in
+      let fitting = all_fit setting in
       enough_after f laws g fitting nodes refl w r.joined k.port t.message t.rest k.node (its_takes f laws g fitting nodes refl w k t r.joined r.beside)
       (its_label f laws g fitting nodes refl w k t r.joined r.beside) h
 
-  pub run_enough : (cs : List Choice) → IsRun node_ready (node_step f) cs (start F f laws alloc c items is) → HasEnough f nodes
-      (run (node_step f) cs (start F f laws alloc c items is))
-  run_enough = run_keeps F f laws alloc c items is (λ _ w. HasEnough f nodes w) enough_at_start
-      (λ ds ok d s. enough_next (run (node_step f) ds (start F f laws alloc c items is)) d s.taking s.runs)
+  pub run_enough : (cs : List Choice) → IsCourse setting cs → HasEnough f nodes (world_of setting cs)
+  run_enough = run_keeps setting (λ _ w. HasEnough f nodes w) enough_at_start (λ ds ok d s. enough_next (world_of setting ds) d s.taking s.runs)
 
 -- what is open where no message is on a link: no copy, and no share but idle ones
 abbrev pub IsCalm : Option Operation → Type 0

@@ -1,8 +1,8 @@
 -- Where no message is on a link no command waits for its answer at the switch: each that was taken is answered.
 use Rattle.nf_net.proofs.Words.{◌≡◌, ℕ, suc, ◌+◌, ◌<◌, ◌≤◌, true, false, Option, Some, None, List, [], ◌∷◌, ◌++◌, map, length, length-append, refl, sym, ap}
-use Rattle.nf_net.proofs.Words.{◌∙◌, subst, arith, if◌then◌else◌, ◌&&◌, ◌==◌, is_some, nat_tests, Semantics, Command, Msg, Note, Operation, Share, Network}
-use Rattle.nf_net.proofs.Words.{IsWorld, queue_at, at, weigh, weigh-append, total, Each, each_map, Config, Node, Switch, is_begun, has_answered, is_share}
-use Rattle.nf_net.proofs.Words.{keeps_off, answers_of, IsInput, IsRising, is_item, commands, all_each, Given, Label, Joined, given, silent_total}
+use Rattle.nf_net.proofs.Words.{◌∙◌, subst, arith, if◌then◌else◌, ◌&&◌, ◌==◌, is_some, nat_tests, Command, Msg, Note, Operation, Share, Network}
+use Rattle.nf_net.proofs.Words.{IsWorld, queue_at, at, weigh, weigh-append, total, Each, each_map, Node, Switch, is_begun, has_answered, is_share}
+use Rattle.nf_net.proofs.Words.{keeps_off, answers_of, IsRising, is_item, commands, all_each, Given, Label, Joined, given, silent_total, Setting}
 use Rattle.std.specs.FinMap as finite
 use Rattle.net_world.specs.Log as log
 use Rattle.nf_net.proofs.RunWords.{answering, is_noted, Busy, keeps_is, told_is, flag}
@@ -59,12 +59,13 @@ all_counted : (ks : List Command) (log : List Note) → AllAnswered ks log → a
 all_counted [] log h = refl
 all_counted (k ∷ ks) log h = let own = ap flag h.0 in let rest = all_counted ks log h.1 in omega (arith, own, rest)
 
-module _ {F R : Type 0} (f : Semantics R) (c : Config) (items : List Msg) (is : IsInput f.kind c items) (n : ℕ) (count_is : n ≡ length c.names + 2)
-    (w : Network (Node F R) Msg Note) (world : IsWorld w) (nodes : length w.nodes ≡ n) (j : Joined f (given f c items is) n w)
-    (b : Busy (given f c items is) w) (enough : HasEnough f n w) (counted : Counted items w) (waits : Told items w)
-    (silent : (s r : ℕ) → (r == 0) && (s == 0) ≡ false → queue_at w (at r s) ≡ []) where
+module _ {F R : Type 0} (setting : Setting F R) (n : ℕ) (count_is : n ≡ length setting.config.names + 2) (w : Network (Node F R) Msg Note) (world : IsWorld w)
+    (nodes : length w.nodes ≡ n) (j : Joined setting.function (given setting) n w) (b : Busy (given setting) w) (enough : HasEnough setting.function n w)
+    (counted : Counted setting.items w) (waits : Told setting.items w) (silent : (s r : ℕ) → (r == 0) && (s == 0) ≡ false → queue_at w (at r s) ≡ []) where
+  open setting use {function as f, items, is_input as is}
+
   abbrev g : Given
-  g = given f c items is
+  g = given setting
 
   abbrev left : List Msg
   left = queue_at w (at 0 0)

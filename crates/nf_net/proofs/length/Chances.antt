@@ -1,8 +1,7 @@
 -- What can still become pieces of a move, and packets that are still to arrive: what messages and nodes weigh by these two. `a` is the weight of a
 -- packet of the input, `k` that of a move whose source hasn't been asked for its chunks.
 use Rattle.nf_net.proofs.Words.{◌≡◌, ℕ, ◌+◌, List, [], ◌∷◌, ◌++◌, length, arith, Msg, Note, Phase, Operation, Move, ControllerState, Stepped, weigh}
-use Rattle.nf_net.proofs.Words.{weigh-append}
-use Rattle.nf_net.proofs.Words.{arrivals_in, pieces_among}
+use Rattle.nf_net.proofs.Words.{weigh-append, arrivals_in, pieces_among}
 use Rattle.move_op.specs.Phases.{Freezing}
 use Rattle.net_world.specs.Length.{one_piece}
 use Rattle.nf_net.proofs.length.MapWeights.{in_all}

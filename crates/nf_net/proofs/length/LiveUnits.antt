@@ -1,9 +1,8 @@
 -- An instance has live records of no more units than packets have arrived: each of these units has a packet that was processed.
 use Rattle.nf_net.proofs.Words.{◌≡◌, ℕ, ◌+◌, ◌<◌, ◌≤◌, true, false, cond, Some, None, List, [], ◌∷◌, ◌++◌, map, length, refl, sym, ap, ◌∙◌, subst, arith}
-use Rattle.nf_net.proofs.Words.{if◌then◌else◌, ◌||◌, ◌==◌, filter, get-entries, len-entries, keys_of, nat_tests, length-map, Semantics, unit_at, unit_cmp, Msg}
-use Rattle.nf_net.proofs.Words.{Note, Records, same_unit, distinct_entries, same_unit_equiv, Network, Ran, done_u, ran_of, packets_done, live_front, Config}
-use Rattle.nf_net.proofs.Words.{Node, arrived_of, processed_of, IsInput, packet_numbered, arrivals_in, is_sys, Given, S, A, came_by, Joined, done_same, given}
-use Rattle.nf_net.proofs.Words.{Unit, split}
+use Rattle.nf_net.proofs.Words.{if◌then◌else◌, ◌||◌, ◌==◌, filter, get-entries, len-entries, keys_of, nat_tests, length-map, unit_at, unit_cmp, Msg, Note}
+use Rattle.nf_net.proofs.Words.{Records, same_unit, distinct_entries, same_unit_equiv, Network, Ran, done_u, ran_of, packets_done, live_front, Node, arrived_of}
+use Rattle.nf_net.proofs.Words.{processed_of, packet_numbered, arrivals_in, is_sys, Given, S, A, came_by, Joined, done_same, given, Unit, split, Setting}
 use Rattle.std.specs.FinMap as finite
 use Rattle.std.specs.FinMap.{find}
 use Rattle.std.specs.Set.{is_member}
@@ -46,16 +45,17 @@ no_front : {X : Type 0} (ds xs zs : List X) → ds ≡ [] → ds ≡ xs ++ zs �
 no_front ds [] zs none e = refl
 no_front ds (x ∷ xs) zs none e = let never : [] ≡ x ∷ (xs ++ zs) = sym none ∙ e in cc
 
-module _ {F R : Type 0} (f : Semantics R) (c : Config) (items : List Msg) (is : IsInput f.kind c items) (n : ℕ) (w : Network (Node F R) Msg Note)
-    (j : Joined f (given f c items is) n w) where
+module _ {F R : Type 0} (setting : Setting F R) (n : ℕ) (w : Network (Node F R) Msg Note) (j : Joined setting.function (given setting) n w) where
+  open setting use {function as f, config as c, items}
+
   abbrev g : Given
-  g = given f c items is
+  g = given setting
 
   -- a unit of which nothing came
   module _ (u : Unit) (none : arrived_of f c items u w.log ≡ []) where
     none_done : done_u (S f g) u j.world.done ≡ []
-    none_done = done_same f c items is n w j u ∙ none_in (processed_of f c items u w.log)
-        (λ p. subst (λ ps. times p (processed_of f c items u w.log) ≤ times p ps) none (once f c items is n w j u p))
+    none_done = done_same setting n w j u ∙ none_in (processed_of f c items u w.log)
+        (λ p. subst (λ ps. times p (processed_of f c items u w.log) ≤ times p ps) none (once setting n w j u p))
 
     none_ran : ran_of (S f g) (A f g) u j.world.done ≡ []
     none_ran = no_packets (ran_of (S f g) (A f g) u j.world.done) (packets_done (S f g) (A f g) u j.world.done ∙ none_done)

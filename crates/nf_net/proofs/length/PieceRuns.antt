@@ -1,8 +1,8 @@
 -- The moves of a run send few pieces: each command streams at most once, and then at most the chunks of as many units as there are packets.
 use Rattle.nf_net.proofs.Words.{◌≡◌, ℕ, zero, suc, ◌+◌, ◌*◌, ◌<◌, ◌≤◌, true, false, List, [], ◌∷◌, ◌++◌, length, refl, arith, ◌/◌, Global, mul-suc, Filter}
-use Rattle.nf_net.proofs.Words.{FunctionLaws, Semantics, Msg, Note, Choice, Network, Stepped, IsRun, run, world_next, at, Takes, weigh, total, total_after}
-use Rattle.nf_net.proofs.Words.{nodes_after, pieces, selected_chunks, Config, Node, Controller, IsInput, is_item, commands, node_step, node_ready, started_with}
-use Rattle.nf_net.proofs.Words.{all_each, Each, Given, Joined, node_of, given, pieces_among, pieces_sent, most_pieces}
+use Rattle.nf_net.proofs.Words.{Semantics, Msg, Note, Choice, Network, Stepped, IsRun, run, world_next, at, Takes, weigh, total, total_after}
+use Rattle.nf_net.proofs.Words.{nodes_after, pieces, selected_chunks, Config, Node, Controller, is_item, commands, node_step, node_ready, started_with}
+use Rattle.nf_net.proofs.Words.{all_each, Each, Given, Joined, node_of, given, pieces_among, pieces_sent, most_pieces, Setting, start}
 use Rattle.std.proofs.Math.Nat.{mul_comm}
 use Rattle.actor_net.proofs.WeightLaws.{log_after}
 use Rattle.instance_worker.proofs.PieceLemmas.{few_selected}
@@ -15,7 +15,7 @@ use Rattle.nf_net.proofs.length.PieceController.{controller_uses}
 use Rattle.nf_net.proofs.length.PieceInstances.{few_pieces, instance_uses, streamed_few}
 use Rattle.nf_net.proofs.length.LiveUnits.{live_few}
 use Rattle.nf_net.proofs.length.RunLength.{pieces_next}
-use Rattle.nf_net.proofs.RunKeeps.{RunStep, run_keeps, start, count}
+use Rattle.nf_net.proofs.RunKeeps.{RunStep, run_keeps, count}
 
 module _ {F R : Type 0} (a k : ℕ) where
   -- a node, and a world with its log
@@ -88,13 +88,14 @@ module _ (F R : Type 0) (a k : ℕ) (alloc : Global) (c : Config) where
       let input = input_chances a k items h in
       omega (arith, first, none, input)
 
-module _ (F : Type 0) {R : Type 0} (f : Semantics R) (laws : FunctionLaws f) (alloc : Global) (c : Config) (items : List Msg)
-    (is : IsInput f.kind c items) where
+module _ {F R : Type 0} (setting : Setting F R) where
+  open setting use {function as f, alloc, config as c, items, is_input as is}
+
   abbrev begin : Network (Node F R) Msg Note
-  begin = start F f laws alloc c items is
+  begin = start setting
 
   abbrev n : ℕ
-  n = count F f laws alloc c items is
+  n = count setting
 
   -- the most pieces of one move
   abbrev most : ℕ
@@ -113,23 +114,23 @@ module _ (F : Type 0) {R : Type 0} (f : Semantics R) (laws : FunctionLaws f) (al
       record { came = omega (arith, one); sent = omega (arith, other) }
 
   -- each instance has few records
-  few_made : (cs : List Choice) (w : Network (Node F R) Msg Note) (j : Joined f (given f c items is) n w) (h : AreFew cs w) (i : ℕ) → 2 ≤ i → i < n
+  few_made : (cs : List Choice) (w : Network (Node F R) Msg Note) (j : Joined f (given setting) n w) (h : AreFew cs w) (i : ℕ) → 2 ≤ i → i < n
       → (filter : Filter) → length (pieces (selected_chunks f (j.nodes.instance i) filter)) ≤ most
   few_made cs w j h i two there filter =
       let chunks = few_selected f filter (j.nodes.instance i).table.live in
-      let units = live_few f c items is n w j i two there in
+      let units = live_few setting n w j i two there in
       let log = arrivals_weigh 0 w.log in
       let came = h.came in
       few_pieces (selected_chunks f (j.nodes.instance i) filter) (length (packets items)) (omega (arith, chunks, units, log, came))
 
-  few_next : (cs : List Choice) (x : Choice) (s : RunStep F f laws alloc c items is (run (node_step f) cs begin) x) → AreFew cs (run (node_step f) cs begin)
+  few_next : (cs : List Choice) (x : Choice) (s : RunStep setting (run (node_step f) cs begin) x) → AreFew cs (run (node_step f) cs begin)
       → AreFew (cs ++ x ∷ []) (world_next (node_step f) (run (node_step f) cs begin) x)
   few_next cs x s h =
       let w = run (node_step f) cs begin in
       let j = s.runs.joined in
       let m = s.taking.message in
-      let g = given f c items is in
-      let more = pieces_next F f laws alloc c items is cs x s in
+      let g = given setting in
+      let more = pieces_next setting cs x s in
       let arrives = chances_after f 1 0 g n w j x.node x.port m s.taking.rest _ s.takes (sends f 1 0 g n w j x.node x.port m) in
       let falls = chances_after f 0 most g n w j x.node x.port m s.taking.rest 0 s.takes
       (streams f 0 most g n w j (few_made cs w j h) x.node x.port m s.takes.receiver) in
@@ -138,7 +139,7 @@ module _ (F : Type 0) {R : Type 0} (f : Semantics R) (laws : FunctionLaws f) (al
       record { came = omega (arith, arrives, came); sent = omega (arith, falls, more, sent) }
 
   run_few : (cs : List Choice) → IsRun node_ready (node_step f) cs begin → AreFew cs (run (node_step f) cs begin)
-  run_few = run_keeps F f laws alloc c items is AreFew few_begin (λ ds _ d s. few_next ds d s)
+  run_few = run_keeps setting AreFew few_begin (λ ds _ d s. few_next ds d s)
 
   -- a run's moves send at most so many pieces
   pub pieces_few : (cs : List Choice) → IsRun node_ready (node_step f) cs begin → pieces_sent f begin cs ≤ most_pieces items

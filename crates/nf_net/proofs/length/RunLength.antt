@@ -1,15 +1,15 @@
 -- No run has more choices than its instances, its packets, the lines of its script and the pieces of its moves allow.
 use Rattle.nf_net.proofs.Words.{◌≡◌, ℕ, zero, suc, ◌+◌, ◌*◌, ◌≤◌, true, false, Some, List, [], ◌∷◌, ◌++◌, length, length-append, refl, ap, ◌∙◌, arith, ◌-◌}
-use Rattle.nf_net.proofs.Words.{slice_get, Global, mul-suc, Decides-eqb, slice_get-get_or, FunctionLaws, Semantics, Msg, Note, Choice, Network, IsRun, queue_at}
-use Rattle.nf_net.proofs.Words.{run, world_next, weigh, Config, Node, IsInput, is_item, node_step, node_ready, started_with, all_each, Each, node_of, given}
-use Rattle.nf_net.proofs.Words.{lines, pieces_among, pieces_sent, most_choices}
+use Rattle.nf_net.proofs.Words.{slice_get, Global, mul-suc, Decides-eqb, slice_get-get_or, Semantics, Msg, Note, Choice, Network, queue_at}
+use Rattle.nf_net.proofs.Words.{run, world_next, weigh, Config, Node, is_item, node_step, started_with, all_each, Each, node_of, given}
+use Rattle.nf_net.proofs.Words.{lines, pieces_among, pieces_sent, most_choices, Setting, start, IsCourse, world_of}
 use Rattle.net_world.specs.Input.{packets}
 use Rattle.net_world.specs.Length.{ends, has_end, pieces_of}
 use Rattle.nf_net.proofs.length.MapWeights.{empty_weighs}
 use Rattle.nf_net.proofs.length.SentWeights.{start_weight}
 use Rattle.nf_net.proofs.length.Weights.{kept, weight, of_operation}
 use Rattle.nf_net.proofs.length.NodeCosts.{of_node, of_world, world_falls}
-use Rattle.nf_net.proofs.RunKeeps.{RunStep, run_keeps, start}
+use Rattle.nf_net.proofs.RunKeeps.{RunStep, run_keeps}
 
 -- what an input weighs
 input_weighs : (o : ℕ) (items : List Msg) → Each (λ item. is_item item ≡ true) items
@@ -39,10 +39,11 @@ module _ {F R : Type 0} (f : Semantics R) where
   pieces_more [] c w = omega arith
   pieces_more (d ∷ ds) c w = let rest = pieces_more ds c (world_next (node_step f) w d) in omega (arith, rest)
 
-module _ (F : Type 0) {R : Type 0} (f : Semantics R) (laws : FunctionLaws f) (alloc : Global) (c : Config) (items : List Msg)
-    (is : IsInput f.kind c items) where
+module _ {F R : Type 0} (setting : Setting F R) where
+  open setting use {function as f, alloc, config as c, items, is_input as is}
+
   abbrev first : Network (Node F R) Msg Note
-  first = start F f laws alloc c items is
+  first = start setting
 
   -- the members of a share besides one are at most so many
   abbrev besides : ℕ
@@ -56,11 +57,10 @@ module _ (F : Type 0) {R : Type 0} (f : Semantics R) (laws : FunctionLaws f) (al
   IsLighter cs w = length cs + of_world {F = F} {R = R} besides w ≤ of_world {F = F} {R = R} besides first + 4 * pieces_sent f first cs
 
   -- the pieces that a step sends
-  pub pieces_next : (cs : List Choice) (k : Choice) (s : RunStep F f laws alloc c items is (run (node_step f) cs first) k)
-      → pieces_sent f first (cs ++ k ∷ [])
+  pub pieces_next : (cs : List Choice) (k : Choice) (s : RunStep setting (world_of setting cs) k) → pieces_sent f first (cs ++ k ∷ [])
       ≡ pieces_sent f first cs + pieces_among (node_step f (node_of s.runs.joined.nodes k.node) k.port s.taking.message).sends
   pieces_next cs k s =
-      let w = run (node_step f) cs first in
+      let w = world_of setting cs in
       let node = node_of s.runs.joined.nodes k.node in
       let count = s.takes.count in
       let more = pieces_more f cs k first in
@@ -69,21 +69,20 @@ module _ (F : Type 0) {R : Type 0} (f : Semantics R) (laws : FunctionLaws f) (al
       ∙ ap (pieces_of f k (Some node)) s.takes.waits in
       omega (arith, more, sent)
 
-  next_lighter : (cs : List Choice) (k : Choice) (s : RunStep F f laws alloc c items is (run (node_step f) cs first) k)
-      → IsLighter cs (run (node_step f) cs first) → IsLighter (cs ++ k ∷ []) (world_next (node_step f) (run (node_step f) cs first) k)
+  next_lighter : (cs : List Choice) (k : Choice) (s : RunStep setting (world_of setting cs) k)
+      → IsLighter cs (world_of setting cs) → IsLighter (cs ++ k ∷ []) (world_next (node_step f) (world_of setting cs) k)
   next_lighter cs k s so_far =
-      let falls = world_falls f (given f c items is) (length c.names + 2) besides (let few = besides_is in omega (arith, few)) refl
-      (run (node_step f) cs first) s.runs.joined k.node k.port s.taking.message s.taking.rest s.takes in
+      let falls = world_falls f (given setting) (length c.names + 2) besides (let few = besides_is in omega (arith, few)) refl
+      (world_of setting cs) s.runs.joined k.node k.port s.taking.message s.taking.rest s.takes in
       let more = pieces_next cs k s in
       let long = length-append cs (k ∷ []) in
       omega (arith, falls, more, long, so_far)
 
-  run_lighter : (cs : List Choice) → IsRun node_ready (node_step f) cs first → IsLighter cs (run (node_step f) cs first)
-  run_lighter = run_keeps F f laws alloc c items is IsLighter (omega arith) (λ ds _ d s. next_lighter ds d s)
+  run_lighter : (cs : List Choice) → IsCourse setting cs → IsLighter cs (world_of setting cs)
+  run_lighter = run_keeps setting IsLighter (omega arith) (λ ds _ d s. next_lighter ds d s)
 
   -- a run has at most so many choices
-  pub run_length : has_end items ≡ true → (cs : List Choice) → IsRun node_ready (node_step f) cs first
-      → length cs ≤ most_choices (length c.names) items (pieces_sent f first cs)
+  pub run_length : has_end items ≡ true → (cs : List Choice) → IsCourse setting cs → length cs ≤ most_choices (length c.names) items (pieces_sent f first cs)
   run_length ended cs run_is =
       let o = besides in
       let few = besides_is in

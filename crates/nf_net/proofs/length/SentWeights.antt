@@ -1,8 +1,7 @@
 -- What is sent weighs together, and what the nodes and the input of a network weigh at its start.
-use Rattle.nf_net.proofs.Words.{◌≡◌, ℕ, zero, suc, ◌+◌, ◌≤◌, Bool, true, false, List, [], ◌∷◌, length, arith, if◌then◌else◌, Global, Msg, Note, reaches}
-use Rattle.nf_net.proofs.Words.{◌*◌, instance_node, stop_messages}
-use Rattle.nf_net.proofs.Words.{opening_weight, weigh, weigh-append, total, sent_weight, Config, Node, Switch, Controller, first_switch, first_instance}
-use Rattle.nf_net.proofs.Words.{first_instances, first_nodes, started_with, Instance}
+use Rattle.nf_net.proofs.Words.{◌≡◌, ℕ, zero, suc, ◌+◌, ◌≤◌, Bool, true, false, List, [], ◌∷◌, length, arith, if◌then◌else◌, Global, Msg, Note, reaches, ◌*◌}
+use Rattle.nf_net.proofs.Words.{instance_node, stop_messages, opening_weight, weigh, weigh-append, total, sent_weight, Config, Node, Switch, Controller}
+use Rattle.nf_net.proofs.Words.{first_switch, first_instance, first_instances, first_nodes, started_with, Instance}
 use Rattle.std.proofs.Common.{suc-mul}
 use Rattle.ctrl_node.specs.Controller as controller
 

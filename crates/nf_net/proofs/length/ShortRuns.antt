@@ -1,6 +1,6 @@
 -- A run of a short input has fewer choices than a schedule may take.
-use Rattle.nf_net.proofs.Words.{ℕ, ◌+◌, ◌*◌, ◌<◌, ◌≤◌, List, [], ◌∷◌, length, arith, ◌/◌, Global, FunctionLaws, Semantics, Msg, Choice, MOST_CHOICES, IsRun}
-use Rattle.nf_net.proofs.Words.{Config, IsInput, commands, node_step, node_ready, started_with, lines, pieces_sent, most_pieces, most_choices, IsShort}
+use Rattle.nf_net.proofs.Words.{ℕ, ◌+◌, ◌*◌, ◌<◌, ◌≤◌, List, [], ◌∷◌, length, arith, ◌/◌, Msg, Choice, MOST_CHOICES}
+use Rattle.nf_net.proofs.Words.{commands, lines, pieces_sent, most_pieces, most_choices, IsShort, Setting, start, IsCourse}
 use Rattle.std.proofs.Math.Nat.{mul-le-mul, div-le_of_le-mul}
 use Rattle.net_world.specs.Input.{packets}
 use Rattle.nf_net.proofs.length.PieceRuns.{pieces_few}
@@ -35,14 +35,14 @@ short_choices n items pieces some short few =
     let all_lines : (4 * n + 24) * lines items ≤ 88 * 1000 = mul-le-mul for_line told in
     omega (arith, all_packets, all_lines, some, few)
 
-module _ (F : Type 0) {R : Type 0} (f : Semantics R) (laws : FunctionLaws f) (alloc : Global) (c : Config) (items : List Msg)
-    (is : IsInput f.kind c items) where
-  pub short_runs : IsShort items → (cs : List Choice) → IsRun node_ready (node_step f) cs (started_with {F = F} {R = R} alloc c items)
-      → length cs < MOST_CHOICES
+module _ {F R : Type 0} (setting : Setting F R) where
+  open setting use {function as f, config as c, items, is_input as is}
+
+  pub short_runs : IsShort items → (cs : List Choice) → IsCourse setting cs → length cs < MOST_CHOICES
   short_runs short cs run_is =
-      let long = run_length F f laws alloc c items is short.ended cs run_is in
-      let sent = pieces_few F f laws alloc c items is cs run_is in
+      let long = run_length setting short.ended cs run_is in
+      let sent = pieces_few setting cs run_is in
       let pieces = short_pieces items short in
-      let least = short_choices (length c.names) items (pieces_sent f (started_with {F = F} {R = R} alloc c items) cs) is.is_config.few short
+      let least = short_choices (length c.names) items (pieces_sent f (start setting) cs) is.is_config.few short
       (omega (arith, sent, pieces)) in
       omega (arith, long, least)

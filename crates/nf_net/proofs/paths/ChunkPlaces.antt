@@ -66,10 +66,11 @@ over_keeps ph e = refl
 
 module _ {F R : Type 0} (here : Reached F R) (u : Unit) (apart : IsApart here u) (op : Op) (third : ℕ) (x : State R)
     (holds : HoldsAt here u op third x) where
-  open here use {f, c, items, is, n, count, w, nodes, j, world}
+  open here use {setting, n, count, w, nodes, j, world}
+  open setting use {function as f, config as c}
 
   abbrev g : Given
-  g = given f c items is
+  g = given setting
 
   abbrev z : Seeing
   z = seeing (S f g) (is_sys f g.site g.packet) u op third

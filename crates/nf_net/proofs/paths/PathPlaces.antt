@@ -16,10 +16,11 @@ if_nil false xs e = refl
 
 module _ {F R : Type 0} (here : Reached F R) (u : Unit) (apart : IsApart here u) (op : Op) (third : ℕ) (x : State R)
     (holds : HoldsAt here u op third x) where
-  open here use {f, c, items, is, n, count, w, nodes, world}
+  open here use {setting, n, count, w, nodes, world}
+  open setting use {function as f}
 
   abbrev g : Given
-  g = given f c items is
+  g = given setting
 
   abbrev mine : ℕ → Bool
   mine = (frame (S f g) (see (S f g) (is_sys f g.site g.packet) u op third)).mine

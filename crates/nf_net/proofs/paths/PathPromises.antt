@@ -1,8 +1,8 @@
 -- In every run what came of a unit is what was processed and what is under way, and nothing stands in two places.
 use Rattle.nf_net.proofs.Words.{◌≡◌, ℕ, suc, ◌+◌, ◌<◌, ◌≤◌, Bool, true, false, List, [], ◌∷◌, ◌++◌, map, refl, sym, ap, ◌∙◌, subst, arith, if◌then◌else◌, ◌==◌}
-use Rattle.nf_net.proofs.Words.{nat_tests, Decides-eqb, Semantics, Msg, Note, Network, same_of, IsOrderedAs, exactly, not_both, WhereAll, Apart_from_shares}
-use Rattle.nf_net.proofs.Words.{Under_share, Config, Node, IsRising, IsInput, arrivals_in, is_loose, IsFront, arrived_of, processed_of, in_flight_of, is_sys}
-use Rattle.nf_net.proofs.Words.{Given, S, A, came_by, same_times, given, Unit, split}
+use Rattle.nf_net.proofs.Words.{nat_tests, Decides-eqb, Msg, Note, Network, same_of, IsOrderedAs, exactly, not_both, WhereAll, Apart_from_shares}
+use Rattle.nf_net.proofs.Words.{Under_share, Node, IsRising, arrivals_in, is_loose, IsFront, arrived_of, processed_of, in_flight_of, is_sys}
+use Rattle.nf_net.proofs.Words.{Given, S, A, came_by, same_times, given, Unit, split, Setting}
 use Rattle.net_world.specs.Input.{packets}
 use Rattle.net_world.specs.Fold.{times}
 use Rattle.net_world.proofs.NumberCounts.{times-append}
@@ -25,20 +25,20 @@ rising_once p least (n ∷ ns) h = split (p == n) (λ b. (if b then 1 else 0) + 
     (λ e. (let same : p ≡ n = (Decides-eqb p n).0 e in let rest = rising_above p (suc n) ns h.1 (omega (arith, same)) in omega (arith, rest)))
     (λ _. (let rest = rising_once p (suc n) ns h.1 in omega (arith, rest)))
 
-pub came_once : {F R : Type 0} (f : Semantics R) (c : Config) (items : List Msg) → IsInput f.kind c items → (w : Network (Node F R) Msg Note)
-    → IsFront (arrivals_in w.log) (map (λ p. p.number) (packets items)) → (p : ℕ) → times p (arrivals_in w.log) ≤ 1
-came_once f c items is w in_turn p =
-    let one : times p (map (λ q. q.number) (packets items)) ≤ 1 = rising_once p 0 (map (λ q. q.number) (packets items)) is.numbers in
-    let whole : times p (arrivals_in w.log ++ in_turn.rest) ≡ times p (map (λ q. q.number) (packets items)) = ap (times p) in_turn.whole in
-    let both = times-append p (arrivals_in w.log) in_turn.rest in
-    omega (arith, one, whole, both)
+pub came_once : {F R : Type 0} (setting : Setting F R) (w : Network (Node F R) Msg Note)
+    → IsFront (arrivals_in w.log) (map (λ p. p.number) (packets setting.items)) → (p : ℕ) → times p (arrivals_in w.log) ≤ 1
+came_once setting w in_turn p =
+    let numbers = map (λ q. q.number) (packets setting.items) in
+    let whole : times p (arrivals_in w.log ++ in_turn.rest) ≡ times p numbers = ap (times p) in_turn.whole in
+    omega (arith, rising_once p 0 numbers setting.is_input.numbers, whole, times-append p (arrivals_in w.log) in_turn.rest)
 
-module _ {F R : Type 0} (here : Reached F R) (in_turn : IsFront (arrivals_in here.w.log) (map (λ p. p.number) (packets here.items))) (told : HomesTold here)
-    (u : Unit) where
-  open here use {f, c, items, is, w, j}
+module _ {F R : Type 0} (here : Reached F R) (in_turn : IsFront (arrivals_in here.w.log) (map (λ p. p.number) (packets here.setting.items)))
+    (told : HomesTold here) (u : Unit) where
+  open here use {setting, w, j}
+  open setting use {function as f, config as c, items}
 
   abbrev g : Given
-  g = given f c items is
+  g = given setting
 
   -- what was processed, and then what is under way, is what came: in order, if no plain move handed the unit on
   record Ordered : Type 0 where

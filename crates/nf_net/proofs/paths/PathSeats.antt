@@ -5,10 +5,9 @@ use Rattle.nf_net.proofs.Words.{subst, arith, if◌then◌else◌, ◌==◌, ◌
 use Rattle.nf_net.proofs.Words.{slice_get-get_or, filter-append, Semantics, stored_of, Msg, Note, instance_node, Operation, Move, Copy, Share, Network, on_link}
 use Rattle.nf_net.proofs.Words.{queue_at, at, EachOn, At_a, At_b, State, IsOrderedAs, Each, Op, only_mine, expect, passes_in, events_in, UnitSeat, seat_shape}
 use Rattle.nf_net.proofs.Words.{seat_all, for_switch, list_all, Open, find_op, find_rule, held_of, seen, Seeing, frame, node_at, RuleLabel, EachNew, olds}
-use Rattle.nf_net.proofs.Words.{OpenShare}
-use Rattle.nf_net.proofs.Words.{moves_of, NoShare, Config, Node, IsInput, is_loose, passed_in, carried_in, forwarded_in, handed_over_in, diverted_in, held_by}
+use Rattle.nf_net.proofs.Words.{OpenShare, moves_of, NoShare, Config, Node, is_loose, passed_in, carried_in, forwarded_in, handed_over_in, diverted_in, held_by}
 use Rattle.nf_net.proofs.Words.{arrived_of, Sees, but_shares, is_sys, Given, place, S, A, Label, FromSwitch, ToSwitch, ToController, shown, Joined, given, Unit}
-use Rattle.nf_net.proofs.Words.{Instance, split}
+use Rattle.nf_net.proofs.Words.{Instance, split, Setting}
 use Rattle.std.specs.FinMap as finite
 use Rattle.proof_machines.proofs.unit.Kept.{on_way}
 use Rattle.proof_machines.proofs.unit.Path.{carries, forwards, no_passes}
@@ -36,10 +35,12 @@ swap_false false false e = refl
 pub there : (c : Config) (n : ℕ) → n ≡ length c.names + 2 → (i : ℕ) → nat_lt i (length c.names) ≡ true → instance_node i < n
 there c n count i e = let few = (Decides-ltb i (length c.names)).0 e in omega (arith, few, count)
 
-module _ {F R : Type 0} (f : Semantics R) (c : Config) (items : List Msg) (is : IsInput f.kind c items) (n : ℕ) (count : n ≡ length c.names + 2)
-    (w : Network (Node F R) Msg Note) (j : Joined f (given f c items is) n w) where
+module _ {F R : Type 0} (setting : Setting F R) (n : ℕ) (count : n ≡ length setting.config.names + 2) (w : Network (Node F R) Msg Note)
+    (j : Joined setting.function (given setting) n w) where
+  open setting use {function as f, config as c}
+
   abbrev its_given : Given
-  its_given = given f c items is
+  its_given = given setting
 
   -- both sides of an open move are among the nodes
   pub sides : (k : ℕ) (e : Open R) → find_op j.world.ops k ≡ Some e → (e.op.src < n) × (e.op.dst < n)
@@ -63,10 +64,11 @@ module _ {F R : Type 0} (f : Semantics R) (g : Given) (n : ℕ) (w : Network (No
       slice_get-get_or w.nodes k node (rw nodes few) ∙ ap Some (j.nodes_are k few node ∙ instance_of j.nodes k two)
 
 module _ {F R : Type 0} (here : Reached F R) where
-  open here use {f, c, items, is, n, count, w, nodes, j, world}
+  open here use {setting, n, count, w, nodes, j, world}
+  open setting use {function as f, config as c, items}
 
   abbrev g : Given
-  g = given f c items is
+  g = given setting
 
   -- the move of a seat is open, between two of the nodes; or the unit is at rest, where nothing of it is on its way
   pub data HasSides (op : Op) (x : State R) : Type 0 where
@@ -110,7 +112,7 @@ module _ {F R : Type 0} (here : Reached F R) where
       by_where (In_move op third e s b found h o fl k) =
           let at : e.op ≡ op = (subst (λ x. IsController (S f g) (see (S f g) (is_sys f g.site g.packet) u op third) x (seat_shape (S f g).F s)) found
           h.ctrl).0 in
-          let both = sides f c items is n count w j op.num e found in
+          let both = sides setting n count w j op.num e found in
           let src : op.src < n = subst (λ o. o.src < n) at both.0 in
           let dst : op.dst < n = subst (λ o. o.dst < n) at both.1 in
           record {

@@ -12,10 +12,11 @@ use Rattle.nf_net.proofs.paths.PathNodes.{only_those, those_mine, store_of}
 use Rattle.nf_net.proofs.RunWords.{those-all, one_at, Reached, IsApart, HoldsAt}
 
 module _ {F R : Type 0} (here : Reached F R) where
-  open here use {f, c, items, is, n, count, w, nodes, j}
+  open here use {setting, n, count, w, nodes, j}
+  open setting use {function as f}
 
   abbrev g : Given
-  g = given f c items is
+  g = given setting
 
   abbrev pub got : ℕ → Option Operation
   got k = finite.get j.nodes.controller.operations k

@@ -1,28 +1,26 @@
 -- A world of a run as the lemmas on the path of a unit take it: its nodes are there, and a whole world of the abstract network shows it.
-use Rattle.nf_net.proofs.Words.{◌≡◌, ℕ, ◌+◌, List, length, refl, Global, FunctionLaws, Semantics, Msg, Note, Choice, Network, IsWorld, IsRun, run, run_world}
-use Rattle.nf_net.proofs.Words.{State, Op, WantShare, moves_of, Under, seeing, Where, Untaken, Config, Node, IsInput, node_step, node_ready, started_with}
-use Rattle.nf_net.proofs.Words.{is_loose, arrived_of, is_sys, Given, S, A, Joined, run_beside, start_world, given, count_at_start, Unit}
+use Rattle.nf_net.proofs.Words.{◌≡◌, ℕ, ◌+◌, List, length, refl, Msg, Note, Choice, Network, IsWorld, run_world, State, Op, WantShare, moves_of}
+use Rattle.nf_net.proofs.Words.{Under, seeing, Where, Untaken, Node, node_step, node_ready, is_loose, arrived_of, is_sys, Given, S, A, Joined}
+use Rattle.nf_net.proofs.Words.{run_beside, start_world, given, count_at_start, Unit, Setting, start, IsCourse, world_of}
 use Rattle.proof_machines.proofs.net.Holding.{Holds}
 use Rattle.proof_machines.proofs.net.Units.{see}
 use Rattle.nf_net.proofs.paths.SharedOwners.{HomesOwn}
 
 pub record Reached (F R : Type 0) : Type 0 where
-  pub f : Semantics R
-  pub c : Config
-  pub items : List Msg
-  pub is : IsInput f.kind c items
+  pub setting : Setting F R
   pub n : ℕ
-  pub count : n ≡ length c.names + 2
+  pub count : n ≡ length setting.config.names + 2
   pub w : Network (Node F R) Msg Note
   pub nodes : length w.nodes ≡ n
-  pub j : Joined f (given f c items is) n w
+  pub j : Joined setting.function (given setting) n w
   pub world : IsWorld w
 
 module _ {F R : Type 0} (here : Reached F R) where
-  open here use {f, c, items, is, n, count, w, j}
+  open here use {setting, n, count, w, j}
+  open setting use {function as f, config as c, items}
 
   abbrev g : Given
-  g = given f c items is
+  g = given setting
 
   -- no share has a unit
   abbrev pub IsApart : Unit → Type 0
@@ -42,26 +40,22 @@ module _ {F R : Type 0} (here : Reached F R) where
 
   -- whose home owns it
   abbrev pub HomesTold : Type 0
-  HomesTold = HomesOwn f c items is n count w j
+  HomesTold = HomesOwn setting n count w j
 
 -- the world that a run leads to
-module _ (F : Type 0) {R : Type 0} (f : Semantics R) (laws : FunctionLaws f) (alloc : Global) (c : Config) (items : List Msg) (is : IsInput f.kind c items)
-    (cs : List Choice) (runs : IsRun node_ready (node_step f) cs (started_with {F = F} {R = R} alloc c items)) where
-  pub is_world : IsWorld (run (node_step f) cs (started_with {F = F} {R = R} alloc c items))
-      × (length (run (node_step f) cs (started_with {F = F} {R = R} alloc c items)).nodes ≡ length c.names + 2)
-  is_world = run_world node_ready (node_step f) (length c.names + 2) (started_with {F = F} {R = R} alloc c items) (start_world F f laws alloc c items is)
-      (count_at_start F f alloc c items is) cs runs
+module _ {F R : Type 0} (setting : Setting F R) (cs : List Choice) (runs : IsCourse setting cs) where
+  open setting use {function as f, config as c}
+
+  pub is_world : IsWorld (world_of setting cs) × (length (world_of setting cs).nodes ≡ length c.names + 2)
+  is_world = run_world node_ready (node_step f) (length c.names + 2) (start setting) (start_world setting) (count_at_start setting) cs runs
 
   abbrev pub reached : Reached F R
   reached = record {
-    f = f;
-    c = c;
-    items = items;
-    is = is;
+    setting = setting;
     n = length c.names + 2;
     count = refl;
-    w = run (node_step f) cs (started_with {F = F} {R = R} alloc c items);
+    w = world_of setting cs;
     nodes = is_world.1;
-    j = (run_beside F f laws alloc c items is cs runs).joined;
+    j = (run_beside setting cs runs).joined;
     world = is_world.0;
   }

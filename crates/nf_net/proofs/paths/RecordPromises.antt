@@ -1,9 +1,9 @@
 -- The live record of a unit that no share has is the fold of what was processed of it, and it stands at one instance.
 use Rattle.nf_net.proofs.Words.{◌≡◌, ℕ, zero, suc, ◌<◌, ◌≤◌, Option, Some, None, List, [], ◌∷◌, ◌++◌, length, refl, sym, ap, ◌∙◌, arith, if◌then◌else◌, ◌==◌}
-use Rattle.nf_net.proofs.Words.{slice_get, option_to_list, Decides-eqb, slice_get_within, get_or_from_slice_get, Semantics, Msg, Note, instance_node, Network}
-use Rattle.nf_net.proofs.Words.{State, idle, Kept, Sys, World, Seeing, node_at, done_u, moves_of, Where, Config, Node, Switch, Controller, IsInput, is_loose}
+use Rattle.nf_net.proofs.Words.{slice_get, option_to_list, Decides-eqb, slice_get_within, get_or_from_slice_get, Msg, Note, instance_node, Network}
+use Rattle.nf_net.proofs.Words.{State, idle, Kept, Sys, World, Seeing, node_at, done_u, moves_of, Where, Node, Switch, Controller, is_loose}
 use Rattle.nf_net.proofs.Words.{arrived_of, live_in, live_at, is_sys, given, Given, WhereAll, Apart_from_shares, Under_share, S, A, came_by, node_of, Joined}
-use Rattle.nf_net.proofs.Words.{Unit, Instance, split, either_way}
+use Rattle.nf_net.proofs.Words.{Unit, Instance, split, either_way, Setting}
 use Rattle.std.specs.FinMap as finite
 use Rattle.proof_machines.proofs.unit.Kept.{Kept.Nowhere, Kept.Is_live, Kept.On_way, Kept.Twice, lives, on_way}
 use Rattle.proof_machines.proofs.net.Readings.{fold, RecordOf, record_of}
@@ -57,8 +57,8 @@ instance_of x zero two = absurd (omega (arith, two))
 instance_of x (suc zero) two = absurd (omega (arith, two))
 instance_of x (suc (suc i)) two = refl
 
-module _ {F R : Type 0} (f : Semantics R) (c : Config) (items : List Msg) (is : IsInput f.kind c items) (n : ℕ) (w : Network (Node F R) Msg Note)
-    (count : length w.nodes ≡ n) (j : Joined f (given f c items is) n w) (u : Unit) where
+module _ {F R : Type 0} (setting : Setting F R) (n : ℕ) (w : Network (Node F R) Msg Note) (count : length w.nodes ≡ n)
+    (j : Joined setting.function (given setting) n w) (u : Unit) where
   -- what is live at an instance is so in the world that shows it
   live_in_world : (i : ℕ) (r : R) → live_at w i u ≡ Some r → finite.get (j.world.inst (instance_node i)).live u ≡ Some r
   live_in_world i r h = by_node (slice_get w.nodes (instance_node i)) refl h
@@ -76,12 +76,15 @@ module _ {F R : Type 0} (f : Semantics R) (c : Config) (items : List Msg) (is : 
           ap (λ x. finite.get x.live u) (sym (j.shown_is.instances (instance_node i) (omega arith) few).outline_is)
           ∙ ap (λ x. finite.get x.table.live u) same ∙ k
 
-module _ {F R : Type 0} (f : Semantics R) (c : Config) (items : List Msg) (is : IsInput f.kind c items) (n : ℕ)
-    (w : Network (Node F R) Msg Note) (count : length w.nodes ≡ n) (j : Joined f (given f c items is) n w) (u : Unit)
-    (at : Where (S f (given f c items is)) (is_sys f (given f c items is).site (given f c items is).packet) u
-    (moves_of (S f (given f c items is)) (A f (given f c items is)) j.world) (arrived_of f c items u w.log) (is_loose c items u w.log)) where
+module _ {F R : Type 0} (setting : Setting F R) (n : ℕ) (w : Network (Node F R) Msg Note) (count : length w.nodes ≡ n)
+    (j : Joined setting.function (given setting) n w) (u : Unit)
+    (at : Where (S setting.function (given setting)) (is_sys setting.function (given setting).site (given setting).packet) u
+    (moves_of (S setting.function (given setting)) (A setting.function (given setting)) j.world)
+    (arrived_of setting.function setting.config setting.items u w.log) (is_loose setting.config setting.items u w.log)) where
+  open setting use {function as f, config as c, items}
+
   abbrev gr : Given
-  gr = given f c items is
+  gr = given setting
 
   abbrev moves : World (S f gr)
   moves = moves_of (S f gr) (A f gr) j.world
@@ -99,7 +102,7 @@ module _ {F R : Type 0} (f : Semantics R) (c : Config) (items : List Msg) (is : 
   -- what a world has at an instance, its state of the machine has
   live_shown : (i : ℕ) (r : R) → live_at w i u ≡ Some r → LivesAt shown_record.seeing shown_record.state (instance_node i) r
   live_shown i r h = lives_at its shown_record.seeing shown_record.state (instance_node i) r
-      (sym (shown_record.tables (instance_node i)) ∙ live_in_world f c items is n w count j u i r h)
+      (sym (shown_record.tables (instance_node i)) ∙ live_in_world setting n w count j u i r h)
 
   pub record_is : (i : ℕ) (r : R) → live_at w i u ≡ Some r → fold its.F None (done_u its u j.world.done) ≡ Some r
   record_is i r h = by_place (live_shown i r h)
@@ -131,19 +134,21 @@ module _ {F R : Type 0} (f : Semantics R) (c : Config) (items : List Msg) (is : 
       by_places (In_c a e) (In_b b d) = never shown_record.state.b.live s d (one.is_c r e).2
 
 -- No unit has two live records.
-module _ {F R : Type 0} (f : Semantics R) (c : Config) (items : List Msg) (is : IsInput f.kind c items) (n : ℕ) (w : Network (Node F R) Msg Note)
-    (count : length w.nodes ≡ n) (j : Joined f (given f c items is) n w) (u : Unit) where
+module _ {F R : Type 0} (setting : Setting F R) (n : ℕ) (w : Network (Node F R) Msg Note) (count : length w.nodes ≡ n)
+    (j : Joined setting.function (given setting) n w) (u : Unit) where
+  open setting use {function as f}
+
   abbrev g : Given
-  g = given f c items is
+  g = given setting
 
   pub one_place : (i k : ℕ) (r s : R) → live_at w i u ≡ Some r → live_at w k u ≡ Some s → i ≡ k
   one_place i k r s hi hk = by_where (j.shown_is.every.unit u)
     where
       by_where : WhereAll (S f g) (A f g) (is_sys f g.site g.packet) u j.world (came_by f g w.log u) → i ≡ k
-      by_where (Apart_from_shares h none) = one_place_apart f c items is n w count j u h.is i k r s hi hk
+      by_where (Apart_from_shares h none) = one_place_apart setting n w count j u h.is i k r s hi hk
       by_where (Under_share x before b h o fl) = omega (arith, at_home i r hi, at_home k s hk)
         where
           -- under a share it is at the home
           at_home : (m : ℕ) (y : R) → live_at w m u ≡ Some y → instance_node m ≡ x.home
           at_home m y live = either_way (instance_node m == x.home) (λ on. (Decides-eqb (instance_node m) x.home).0 on)
-              (λ off. (let never : None ≡ Some y = sym (h.away (instance_node m) off) ∙ live_in_world f c items is n w count j u m y live in cc))
+              (λ off. (let never : None ≡ Some y = sym (h.away (instance_node m) off) ∙ live_in_world setting n w count j u m y live in cc))

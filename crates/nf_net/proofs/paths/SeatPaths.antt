@@ -40,12 +40,13 @@ those-places mine p q r s t v x y =
     ∙ ap (λ l. filter mine t ++ l) (filter-append mine v (x ++ y)
     ∙ ap (λ l. filter mine v ++ l) (filter-append mine x y))))))
 
-module _ {F R : Type 0} (here : Reached F R) (in_turn : IsFront (arrivals_in here.w.log) (map (λ p. p.number) (packets here.items))) (u : Unit)
+module _ {F R : Type 0} (here : Reached F R) (in_turn : IsFront (arrivals_in here.w.log) (map (λ p. p.number) (packets here.setting.items))) (u : Unit)
     (at : AsMoves here u) (apart : IsApart here u) where
-  open here use {f, c, items, is, n, count, w, nodes, j}
+  open here use {setting, n, count, w, nodes, j}
+  open setting use {function as f, config as c, items}
 
   abbrev g : Given
-  g = given f c items is
+  g = given setting
 
   abbrev mine : ℕ → Bool
   mine = is_of f c items u
@@ -106,7 +107,7 @@ module _ {F R : Type 0} (here : Reached F R) (in_turn : IsFront (arrivals_in her
       by_list (p ∷ ps) e =
           let whole : filter mine (map (λ q. q.number) (packets items)) ≡ p ∷ (ps ++ filter mine in_turn.rest) = ap (filter mine) (sym in_turn.whole)
           ∙ filter-append mine (arrivals_in w.log) in_turn.rest ∙ ap (λ v. v ++ filter mine in_turn.rest) e in
-          some (known_of (packets items) (genuine f c items is) p (ps ++ filter mine in_turn.rest) whole)
+          some (known_of (packets items) (genuine setting) p (ps ++ filter mine in_turn.rest) whole)
 
   -- what stands at an instance
   abbrev at_one : ℕ → List ℕ
@@ -267,5 +268,5 @@ module _ {F R : Type 0} (here : Reached F R) (in_turn : IsFront (arrivals_in her
 
   pub all_is : processed_of f c items u w.log ++ in_flight_of f c items u w ≡ seat_all k.seat
   all_is =
-      ap (λ v. v ++ in_flight_of f c items u w) (sym (done_same f c items is n w j u) ∙ k.holds.done)
+      ap (λ v. v ++ in_flight_of f c items u w) (sym (done_same setting n w j u) ∙ k.holds.done)
       ∙ ap (λ v. firsts x.done ++ v) path_is ∙ sym (seat_parts (S f g).F k.seat)

@@ -185,10 +185,11 @@ module _ {R : Type 0} (f : Semantics R) (g : Given) (z : SeeingShare) where
 
 -- In a world.
 module _ {F R : Type 0} (here : Reached F R) (u : Unit) (x : WantShare) (before since : List ℕ) (k : IsUnder here u x before since) where
-  open here use {f, c, items, is, n, count, w, nodes, j, world}
+  open here use {setting, n, count, w, nodes, j, world}
+  open setting use {function as f}
 
   abbrev g : Given
-  g = given f c items is
+  g = given setting
 
   abbrev z : SeeingShare
   z = seeing (S f g) (A f g) u x

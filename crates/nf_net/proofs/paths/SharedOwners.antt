@@ -1,9 +1,8 @@
 -- The members of an open share are among the nodes, and a share that a unit is under, as the controller has it. And what is told
 -- of the log: the home of such a share owns the unit.
 use Rattle.nf_net.proofs.Words.{◌≡◌, ℕ, ◌+◌, ◌<◌, true, Some, List, [], ◌∷◌, map, length, sym, ap, ◌∙◌, arith, if◌then◌else◌, ◌==◌, nat_lt, Decides-eqb}
-use Rattle.nf_net.proofs.Words.{Decides-ltb, Semantics, Msg, Note, instance_node, Network, Each, View, has, shape, unit_share, as_share, WantShare, OpenShare}
-use Rattle.nf_net.proofs.Words.{find_share, SeeingShare, Under, seeing, Config, Node, IsInput, owner, real_share, RealShare, Given, place, S, A, Joined, given}
-use Rattle.nf_net.proofs.Words.{Unit, split}
+use Rattle.nf_net.proofs.Words.{Decides-ltb, Msg, Note, instance_node, Network, Each, View, has, shape, unit_share, as_share, WantShare, OpenShare, find_share}
+use Rattle.nf_net.proofs.Words.{SeeingShare, Under, seeing, Node, owner, real_share, RealShare, Given, place, S, A, Joined, given, Unit, split, Setting}
 
 -- members of a share are instances that are there
 few_nodes : (count : ℕ) (xs : List ℕ) → Each (λ x. nat_lt x count ≡ true) xs → (k : ℕ) → has (map instance_node xs) k ≡ true → k < count + 2
@@ -13,10 +12,12 @@ few_nodes count (x ∷ xs) h k is =
     (λ on _. (let same : k ≡ instance_node x = (Decides-eqb k (instance_node x)).0 on in
     let low : x < count = (Decides-ltb x count).0 h.0 in omega (arith, same, low))) (λ _ rest. few_nodes count xs h.1 k rest) is
 
-module _ {F R : Type 0} (f : Semantics R) (c : Config) (items : List Msg) (is : IsInput f.kind c items) (n : ℕ) (count : n ≡ length c.names + 2)
-    (w : Network (Node F R) Msg Note) (j : Joined f (given f c items is) n w) where
+module _ {F R : Type 0} (setting : Setting F R) (n : ℕ) (count : n ≡ length setting.config.names + 2) (w : Network (Node F R) Msg Note)
+    (j : Joined setting.function (given setting) n w) where
+  open setting use {function as f, config as c, items}
+
   abbrev g : Given
-  g = given f c items is
+  g = given setting
 
   -- the members of an open share are among the nodes
   pub members_few : (e : OpenShare) → find_share j.world.shares e.num ≡ Some e → (k : ℕ) → has e.members k ≡ true → k < n

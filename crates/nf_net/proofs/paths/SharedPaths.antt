@@ -12,10 +12,11 @@ use Rattle.nf_net.proofs.paths.SharedPlaces.{fr, v, its_places, passed_are, forw
 
 module _ {F R : Type 0} (here : Reached F R) (told : HomesTold here) (u : Unit) (x : WantShare) (before since : List ℕ)
     (k : IsUnder here u x before since) where
-  open here use {f, c, items, is, n, count, w, nodes, j, world}
+  open here use {setting, n, count, w, j}
+  open setting use {function as f, config as c, items}
 
   abbrev g : Given
-  g = given f c items is
+  g = given setting
 
   abbrev mine : ℕ → Bool
   mine = (fr here u x before since k).mine
@@ -30,7 +31,7 @@ module _ {F R : Type 0} (here : Reached F R) (told : HomesTold here) (u : Unit) 
   few_of i small = omega (arith, small, count)
 
   home_few : instance_node i0 < n
-  home_few = subst (λ m. m < n) (sym home_is) (members_few f c items is n count w j (as_share (S f g) (A f g) (seeing (S f g) (A f g) u x)
+  home_few = subst (λ m. m < n) (sym home_is) (members_few setting n count w j (as_share (S f g) (A f g) (seeing (S f g) (A f g) u x)
       (v here u x before since k).phase (v here u x before since k).queue)
       k.holds.share x.home k.is.home_in)
 
@@ -67,5 +68,5 @@ module _ {F R : Type 0} (here : Reached F R) (told : HomesTold here) (u : Unit) 
 
   -- what was processed and what is under way are what came, before the packets were diverted and since
   pub all_is : processed_of f c items u w.log ++ in_flight_of f c items u w ≡ before ++ since
-  all_is = ap (λ l. l ++ in_flight_of f c items u w) (sym (done_same f c items is n w j u)) ∙ ap (λ l. done_u (S f g) u j.world.done ++ l) path_is
+  all_is = ap (λ l. l ++ in_flight_of f c items u w) (sym (done_same setting n w j u)) ∙ ap (λ l. done_u (S f g) u j.world.done ++ l) path_is
       ∙ under_order (S f g) (A f g) (seeing (S f g) (A f g) u x) j.world before since k

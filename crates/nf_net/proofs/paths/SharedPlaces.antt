@@ -20,10 +20,11 @@ use Rattle.nf_net.proofs.paths.SharedOwners.{real, members_few}
 use Rattle.nf_net.proofs.paths.SharedStages.{Places, places}
 
 module _ {F R : Type 0} (here : Reached F R) (u : Unit) (x : WantShare) (before since : List ℕ) (k : IsUnder here u x before since) where
-  open here use {f, c, items, is, n, count, w, nodes, j, world}
+  open here use {setting, n, count, w, nodes, j, world}
+  open setting use {function as f}
 
   abbrev g : Given
-  g = given f c items is
+  g = given setting
 
   abbrev pub z : SeeingShare
   z = seeing (S f g) (A f g) u x
@@ -73,7 +74,7 @@ module _ {F R : Type 0} (here : Reached F R) (u : Unit) (x : WantShare) (before 
   its_places = places fr k.is k.stage
 
   at_few : its_places.at < n
-  at_few = members_few f c items is n count w j (as_share (S f g) (A f g) z v.phase v.queue) k.holds.share its_places.at its_places.inside
+  at_few = members_few setting n count w j (as_share (S f g) (A f g) z v.phase v.queue) k.holds.share its_places.at its_places.inside
 
   -- the share's packet on its way to a member
   pub passed_are : filter mine (on_links w passed_in) ≡ shared_in fr (v.sw its_places.at)
@@ -163,7 +164,7 @@ module _ {F R : Type 0} (here : Reached F R) (u : Unit) (x : WantShare) (before 
 
   pub queue_is : filter mine (flat_map queued_by w.nodes) ≡ mine_in fr v.queue
   queue_is =
-      let r = real f c items is n count w j u x before since k in
+      let r = real setting n count w j u x before since k in
       let queue : v.queue ≡ numbers (its_cells x.num) = ap (λ y. y.queue) r.sees.is in
       queued_for here mine x.num
       (λ q off. queue_at q (let out : (q == x.num) ≡ false = grind (arith, nat_tests, off) in out) (its_got q) refl)

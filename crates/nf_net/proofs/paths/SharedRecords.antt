@@ -33,10 +33,11 @@ last_mine f g u (x ∷ ds) xs d e = split (same_unit ((S f g).packet_unit x.0) u
 
 module _ {F R : Type 0} (here : Reached F R) (told : HomesTold here) (u : Unit) (x : WantShare) (before since : List ℕ)
     (k : IsUnder here u x before since) where
-  open here use {f, c, items, is, n, count, w, nodes, j}
+  open here use {setting, n, count, w, nodes, j}
+  open setting use {function as f, config as c, items}
 
   abbrev g : Given
-  g = given f c items is
+  g = given setting
 
   abbrev z : SeeingShare
   z = seeing (S f g) (A f g) u x
@@ -55,7 +56,7 @@ module _ {F R : Type 0} (here : Reached F R) (told : HomesTold here) (u : Unit) 
   home_is = told u x before since k
 
   few : (m : ℕ) → has x.members m ≡ true → m < n
-  few m inside = members_few f c items is n count w j (as_share (S f g) (A f g) z v.phase v.queue) k.holds.share m inside
+  few m inside = members_few setting n count w j (as_share (S f g) (A f g) z v.phase v.queue) k.holds.share m inside
 
   -- what is kept after packets
   abbrev pub kept : List ℕ → Option R
@@ -65,8 +66,7 @@ module _ {F R : Type 0} (here : Reached F R) (told : HomesTold here) (u : Unit) 
   kept_runs ds = fold_packets (S f g).F None ds
 
   went_is : processed_of f c items u w.log ≡ packets (processed fr k.stage)
-  went_is = sym (done_same f c items is n w j u) ∙ sym (packets_done (S f g) (A f g) u j.world.done)
-      ∙ ap packets (all_done (S f g) (A f g) z j.world before since k)
+  went_is = sym (done_same setting n w j u) ∙ sym (packets_done (S f g) (A f g) u j.world.done) ∙ ap packets (all_done (S f g) (A f g) z j.world before since k)
 
   -- At an instance.
   live_there : (m : ℕ) → 2 ≤ m → m < n → live_in u (slice_get w.nodes m) ≡ (S f g).B.at u (j.world.inst m).live

@@ -1,10 +1,9 @@
 -- The whole world's steps as moves see them: a step on a message of a move is, to every unit, that of the moves' world; a step on a
 -- message of a share leaves the controller's moves as they are.
 use Rattle.proof_machines.proofs.net.Words.{◌≡◌, ℕ, Bool, true, false, Option, Some, None, List, [], ◌∷◌, ◌++◌, drop, refl, sym, ap, ◌∙◌, append-nil, arith}
-use Rattle.proof_machines.proofs.net.Words.{if◌then◌else◌, ◌&&◌, ◌==◌, option_map_or, nat_tests, sent_for, Each, EachSent}
-use Rattle.proof_machines.proofs.net.Words.{Msg, MoveAsked, Sys, process, inst_step, ctrl_step, sw_sends, begin_sends, behind, links_after, inst_next}
-use Rattle.proof_machines.proofs.net.Words.{ctrl_next, sw_next, begin_next, Any, Old, New, ShareMsg, Shared_on, S_sync, S_shared, olds}
-use Rattle.proof_machines.proofs.net.Words.{as_old, Sharing, OpenShare, Told, Is_fenced, share_row}
+use Rattle.proof_machines.proofs.net.Words.{if◌then◌else◌, ◌&&◌, ◌==◌, option_map_or, nat_tests, sent_for, Each, EachSent, Msg, MoveAsked, Sys, process}
+use Rattle.proof_machines.proofs.net.Words.{inst_step, ctrl_step, sw_sends, begin_sends, behind, links_after, inst_next, ctrl_next, sw_next, begin_next, Any}
+use Rattle.proof_machines.proofs.net.Words.{Old, New, ShareMsg, Shared_on, S_sync, S_shared, olds, as_old, Sharing, OpenShare, Told, Is_fenced, share_row}
 use Rattle.proof_machines.proofs.net.Words.{told_by, by_share, shared_chunk, member_step, WholeWorld, moves_of, whole_inst, whole_ctrl, whole_switch}
 use Rattle.proof_machines.proofs.net.Words.{begin_move, Unit}
 use Rattle.proof_machines.proofs.net.Elsewhere.{Elsewhere}

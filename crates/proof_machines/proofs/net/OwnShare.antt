@@ -1,11 +1,11 @@
 -- A unit's own share takes what it is told: the unit sees what the share's machine does (`fenced_sees` to `packet_sees`).
 use Rattle.proof_machines.proofs.net.Words.{◌≡◌, ℕ, ◌≤◌, Bool, true, false, Option, Some, List, [], ◌∷◌, ◌++◌, map, refl, sym, ap, ◌∙◌, subst, append-nil}
 use Rattle.proof_machines.proofs.net.Words.{arith, if◌then◌else◌, ◌==◌, nat_tests, Decides-eqb, nat_eq_equiv, record_at, where_true, add, sent_for}
-use Rattle.proof_machines.proofs.net.Words.{filter_map-append, sent_for-append, Forward, Get, Sync, Diverted, Fenced, Chunk, Synced, Stray, UnitShare, SharePhase}
-use Rattle.proof_machines.proofs.net.Words.{Idle, Out, has, without_number, only, nowhere, waits, sync_to, serves, said_to, share_does, distinct, IsShare}
-use Rattle.proof_machines.proofs.net.Words.{self, has-without, apart_of, Sys, mine, unit_share, fit, share_seen, share_items, as_share, Any, New, S_forward}
-use Rattle.proof_machines.proofs.net.Words.{S_get, S_sync, same, Sharing, OpenShare, Told, Is_fenced, Has_chunks, Has_chunk, Is_synced, Has_packet, ShareTurn}
-use Rattle.proof_machines.proofs.net.Words.{s_row, s_serves, share_row, share_words, SeeingShare, split, false_from_ne_true, Unit}
+use Rattle.proof_machines.proofs.net.Words.{filter_map-append, sent_for-append, Forward, Get, Sync, Diverted, Fenced, Chunk, Synced, Stray, UnitShare}
+use Rattle.proof_machines.proofs.net.Words.{SharePhase, Idle, Out, has, without_number, only, nowhere, waits, sync_to, serves, said_to, share_does, distinct}
+use Rattle.proof_machines.proofs.net.Words.{IsShare, self, has-without, apart_of, Sys, mine, unit_share, fit, share_seen, share_items, as_share, Any, New}
+use Rattle.proof_machines.proofs.net.Words.{S_forward, S_get, S_sync, same, Sharing, OpenShare, Told, Is_fenced, Has_chunks, Has_chunk, Is_synced, Has_packet}
+use Rattle.proof_machines.proofs.net.Words.{ShareTurn, s_row, s_serves, share_row, share_words, SeeingShare, split, false_from_ne_true, Unit}
 use Rattle.copy_share.specs.ShareTable as said
 use Rattle.copy_share.specs.ShareTable.{Said, on_fenced, on_chunks, on_shared, on_synced, service_if_idle}
 use Rattle.proof_machines.proofs.unit.Real

@@ -4,8 +4,7 @@ use Rattle.std.proofs.Common.{◌≡◌, ℕ, ◌-◌, Bool, List, [], ◌∷◌
 use Rattle.std.specs.Prelude.{if◌then◌else◌, ◌==◌}
 use Rattle.copy_share.specs.declared.share_phase.SharePhase.{SharePhase}
 use Rattle.copy_share.specs.declared.share_phase.SharePhase.TheVariants.{Fencing, Getting, Setting, Idle, Out, Syncing}
-use Rattle.copy_share.specs.ShareTable.{Nothing, Get, Sync, Words, setting, syncing, on_fenced, on_chunks, on_shared, on_synced, service_of}
-use Rattle.copy_share.specs.ShareTable.{service_if_idle}
+use Rattle.copy_share.specs.ShareTable.{Nothing, Get, Sync, Words, setting, syncing, on_fenced, on_chunks, on_shared, on_synced, service_of, service_if_idle}
 use Rattle.proof_machines.proofs.Tests.{split}
 
 -- a phase with another number for the member at which a packet is out

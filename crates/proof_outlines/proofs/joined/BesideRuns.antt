@@ -1,9 +1,8 @@
 -- What is kept beside each world of a run: copies that are on their way, and numbers that are to come. It gives what the nodes' steps want, and each
 -- choice keeps it.
-use Rattle.proof_outlines.proofs.Words.{◌≡◌, ℕ, ◌+◌, ◌<◌, false, List, [], ◌∷◌, length, refl, ◌∙◌, subst, arith, ◌&&◌, ◌==◌, Global, nat_tests, Chunk, Fits}
-use Rattle.proof_outlines.proofs.Words.{Semantics, Msg, Note, Choice, Network, queue_at, world_next, at, opening_waiting, opening_weight, Taking, Takes}
-use Rattle.proof_outlines.proofs.Words.{less_first, Each, EachSent, weigh, Config, Node, IsInput, node_step, node_ready, first_nodes, started_with}
-use Rattle.proof_outlines.proofs.Words.{FunctionLaws}
+use Rattle.proof_outlines.proofs.Words.{◌≡◌, ℕ, ◌+◌, ◌<◌, false, List, [], ◌∷◌, length, refl, ◌∙◌, subst, arith, ◌&&◌, ◌==◌, nat_tests, Chunk, Fits, Semantics}
+use Rattle.proof_outlines.proofs.Words.{Msg, Note, Choice, Network, queue_at, world_next, at, opening_waiting, opening_weight, Taking, Takes, less_first, Each}
+use Rattle.proof_outlines.proofs.Words.{EachSent, weigh, Node, node_step, node_ready, first_nodes, FunctionLaws}
 use Rattle.ctrl_node.specs.Controller.{controller_at_start as opened_controller}
 use Rattle.proof_outlines.proofs.joined.Words.{Given, count, Label, Joined, node_of, IsTaken, Leads}
 use Rattle.proof_outlines.proofs.joined.JoinedSteps.{scene, is_taken, input_after, step_leads, takes_at, ready_at, joined_next}
@@ -15,6 +14,7 @@ use Rattle.proof_outlines.proofs.joined.CopyCounts.{keeps_of}
 use Rattle.proof_outlines.proofs.joined.CopyTokens.{HasTokens, tokens_after, token_controller, token_open, switch_light}
 use Rattle.proof_outlines.proofs.joined.RisingRuns.{NumbersRise, numbers_first, numbers_next, copies_next}
 use Rattle.proof_outlines.proofs.joined.StartJoined.{given, all_labelled, count_at_start, start_joined}
+use Rattle.proof_outlines.proofs.joined.Setting.{Setting, start}
 
 module _ {F R : Type 0} (f : Semantics R) (g : Given) (n : ℕ) where
   pub record HasBeside (w : Network (Node F R) Msg Note) (j : Joined f g n w) : Type 0 where
@@ -75,40 +75,41 @@ module _ {F R : Type 0} (f : Semantics R) (laws : FunctionLaws f) (g : Given) (f
         numbers = numbers_next f g n count_is (Wants f g) (node_leads f laws g fitting n) w k t j b.numbers wants;
       }
 
-module _ (F : Type 0) {R : Type 0} (f : Semantics R) (alloc : Global) (c : Config) (items : List Msg) (is : IsInput f.kind c items) where
+module _ {F R : Type 0} (setting : Setting F R) where
+  open setting use {function as f, alloc, config as c, items, is_input as is}
+
   abbrev given_so : Given
-  given_so = given f c items is
+  given_so = given setting
 
   items_light : (op : ℕ) (ms : List Msg) → Each (Label f given_so 0 0) ms → weigh (keeps_of op) ms ≡ 0
   items_light op [] h = refl
   items_light op (m ∷ ms) h = let one = switch_light f given_so op 0 m h.0 in let rest = items_light op ms h.1 in omega (arith, one, rest)
 
-  tokens_at_start : HasTokens (started_with {F = F} {R = R} alloc c items)
+  tokens_at_start : HasTokens (start setting)
   tokens_at_start = record {
     controller = opened_controller c.names c.site;
     controller_is = λ d. refl;
     few = λ op.
         let all = opening_weight Note (first_nodes {F = F} {R = R} alloc c) items (keeps_of op) in
-        let none = items_light op items (all_labelled f c items is) in
+        let none = items_light op items (all_labelled setting) in
         omega (arith, all, none);
   }
 
   -- but for the input nothing waits
-  waits_nowhere : (i y : ℕ) → (i == 0) && (y == 0) ≡ false → queue_at (started_with {F = F} {R = R} alloc c items) (at y i) ≡ []
-  waits_nowhere i y off = opening_waiting Note (first_nodes {F = F} {R = R} alloc c) items (omega (arith, count_at_start F f alloc c items is)) i y
+  waits_nowhere : (i y : ℕ) → (i == 0) && (y == 0) ≡ false → queue_at (start setting) (at y i) ≡ []
+  waits_nowhere i y off = opening_waiting Note (first_nodes {F = F} {R = R} alloc c) items (omega (arith, count_at_start setting)) i y
       ∙ (let swapped : (y == 0) && (i == 0) ≡ false = grind (arith, nat_tests, off) in rw swapped refl)
 
-  pub beside_at_start : HasBeside f given_so (length c.names + 2) (started_with {F = F} {R = R} alloc c items) (start_joined F f alloc c items is)
+  pub beside_at_start : HasBeside f given_so (length c.names + 2) (start setting) (start_joined setting)
   unfolding tokens_at_start
   beside_at_start =
       let some = is.is_config.some in
       let low : 1 < length c.names + 2 = omega (arith, some) in
-      let same = token_controller f given_so (length c.names + 2) (started_with {F = F} {R = R} alloc c items) (start_joined F f alloc c items is) low
+      let same = token_controller f given_so (length c.names + 2) (start setting) (start_joined setting) low
       tokens_at_start in
       record {
-        kept = kept_at_start f given_so (length c.names + 2) (started_with {F = F} {R = R} alloc c items) (start_joined F f alloc c items is)
+        kept = kept_at_start f given_so (length c.names + 2) (start setting) (start_joined setting)
             (λ i y hi hy off. waits_nowhere i y off) (subst (λ x. AllApart x.operations) same none_apart);
         tokens = tokens_at_start;
-        numbers = numbers_first f given_so (length c.names + 2) low (started_with {F = F} {R = R} alloc c items) (start_joined F f alloc c items is)
-            (waits_nowhere 0 1 refl);
+        numbers = numbers_first f given_so (length c.names + 2) low (start setting) (start_joined setting) (waits_nowhere 0 1 refl);
       }

@@ -1,9 +1,8 @@
 -- What the controller sends for copies: it asks for records as a copy begins, or for a share, and hands on what came. Nothing else is of a copy.
-use Rattle.proof_outlines.proofs.Words.{◌≡◌, ℕ, Bool, true, Option, Some, None, List, [], ◌∷◌, ◌++◌, map, refl, if◌then◌else◌, ◌-◌, ◌==◌}
-use Rattle.proof_outlines.proofs.Words.{filter_map, Filter, flow_of, Chunk, Pass, FullCell, Answer, Command, Order, Msg, switch_node, instance_node, op_of}
-use Rattle.proof_outlines.proofs.Words.{stored_of, with_parcels, source, destination, Operation, CopyPhase, SharePhase, CopyPlan, CopyState, SharePlan}
-use Rattle.proof_outlines.proofs.Words.{ShareState, home, Move, Copy, Share, Turn, turn_of, serving_of, share_of, place_of, ControllerState, Each, each-append}
-use Rattle.proof_outlines.proofs.Words.{by_if}
+use Rattle.proof_outlines.proofs.Words.{◌≡◌, ℕ, Bool, true, Option, Some, None, List, [], ◌∷◌, ◌++◌, map, refl, if◌then◌else◌, ◌-◌, ◌==◌, filter_map, Filter}
+use Rattle.proof_outlines.proofs.Words.{flow_of, Chunk, Pass, FullCell, Answer, Command, Order, Msg, switch_node, instance_node, op_of, stored_of, with_parcels}
+use Rattle.proof_outlines.proofs.Words.{source, destination, Operation, CopyPhase, SharePhase, CopyPlan, CopyState, SharePlan, ShareState, home, Move, Copy}
+use Rattle.proof_outlines.proofs.Words.{Share, Turn, turn_of, serving_of, share_of, place_of, ControllerState, Each, each-append, by_if}
 use Rattle.std.specs.FinMap as finite
 use Rattle.copy_share.specs.Copy as copy
 use Rattle.copy_share.specs.Share.{others as members_but}

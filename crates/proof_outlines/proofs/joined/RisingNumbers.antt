@@ -1,10 +1,9 @@
 -- The numbers of commands that wait for the controller, copies' among them: which messages have one, what the switch sends of them, and what the
 -- abstract network sees of them.
-use Rattle.proof_outlines.proofs.Words.{◌≡◌, ℕ, zero, suc, ◌≤◌, Bool, true, false, Option, Some, None, List, [], ◌∷◌, ◌++◌, refl, sym, ap, ◌∙◌, subst}
-use Rattle.proof_outlines.proofs.Words.{arith, if◌then◌else◌, ◌&&◌, ◌||◌, ◌==◌, not, nat_lt, option_map, filter_map, Decides-eqb, Semantics}
-use Rattle.proof_outlines.proofs.Words.{Target, spelled, Packet, Command, Order, Msg, instance_node, SwitchState, sends_to_instance, goes_to, stop_messages}
-use Rattle.proof_outlines.proofs.Words.{switch_step, has_room, is_there, target_of, at, MoveAsked, Rising, rising_less, Any, Old, New, WantShare, S_asked}
-use Rattle.proof_outlines.proofs.Words.{S_shared, Mark, Unit}
+use Rattle.proof_outlines.proofs.Words.{◌≡◌, ℕ, zero, suc, ◌≤◌, Bool, true, false, Option, Some, None, List, [], ◌∷◌, ◌++◌, refl, sym, ap, ◌∙◌, subst, arith}
+use Rattle.proof_outlines.proofs.Words.{if◌then◌else◌, ◌&&◌, ◌||◌, ◌==◌, not, nat_lt, option_map, filter_map, Decides-eqb, Semantics, Target, spelled, Packet}
+use Rattle.proof_outlines.proofs.Words.{Command, Order, Msg, instance_node, SwitchState, sends_to_instance, goes_to, stop_messages, switch_step, has_room}
+use Rattle.proof_outlines.proofs.Words.{is_there, target_of, at, MoveAsked, Rising, rising_less, Any, Old, New, WantShare, S_asked, S_shared, Mark, Unit}
 use Rattle.switch_node.specs.Switch.{Step, still}
 use Rattle.std.proofs.lemmas.List.Elements.{filter_map-append}
 use Rattle.actor_net.specs.Histories.{sent_for}

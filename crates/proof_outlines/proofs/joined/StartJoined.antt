@@ -1,12 +1,12 @@
 -- The world at the start of a run is a world of a run.
 use Rattle.proof_outlines.proofs.Words.{◌≡◌, ℕ, zero, suc, ◌+◌, ◌<◌, ◌≤◌, Bool, true, false, Option, Some, None, List, [], ◌∷◌, map, length, get_or, lit<, refl}
-use Rattle.proof_outlines.proofs.Words.{sym, ap, ◌∙◌, subst, arith, if◌then◌else◌, ◌&&◌, ◌==◌, nat_lt, option_map, unwrap_or, find, Global, nat_cmp}
-use Rattle.proof_outlines.proofs.Words.{option_map_or, nat_tests, Decides-ltb, All-cons, All-nil, get_or_append_left, RestRule, stored_of, stored-empty, Ruling}
-use Rattle.proof_outlines.proofs.Words.{WholeWorld, moves_of, Rising, Filter, Flow, Packet, IsFilter, matches, flow_of, Kind, Fits, takes, unit_cmp, unit_of}
-use Rattle.proof_outlines.proofs.Words.{Semantics, AreFilters, any, first_match, opened, FullCell, Command, Order, Msg, instance_node, Each, each_both, Config}
-use Rattle.proof_outlines.proofs.Words.{is_item, packets, commands, no_packet, packet_numbered, order_numbered, IsRising, IsSteered, IsWhole, IsProper, IsInput}
-use Rattle.proof_outlines.proofs.Words.{Node, Note, queue_at, at, opening_waiting, opening_on_links, first_owner, first_switch, first_instance, first_instances}
-use Rattle.proof_outlines.proofs.Words.{first_nodes, started_with, either_way, by_if, Unit, Target, InstanceState, split}
+use Rattle.proof_outlines.proofs.Words.{sym, ap, ◌∙◌, subst, arith, if◌then◌else◌, ◌&&◌, ◌==◌, nat_lt, option_map, unwrap_or, find, nat_cmp, option_map_or}
+use Rattle.proof_outlines.proofs.Words.{nat_tests, Decides-ltb, All-cons, All-nil, get_or_append_left, RestRule, stored_of, stored-empty, Ruling, WholeWorld}
+use Rattle.proof_outlines.proofs.Words.{moves_of, Rising, Filter, Flow, Packet, IsFilter, matches, flow_of, Kind, Fits, takes, unit_cmp, unit_of, Semantics}
+use Rattle.proof_outlines.proofs.Words.{AreFilters, any, first_match, opened, FullCell, Command, Order, Msg, instance_node, Each, each_both, Config, IsInput}
+use Rattle.proof_outlines.proofs.Words.{is_item, packets, commands, no_packet, packet_numbered, order_numbered, IsRising, IsSteered, IsWhole, IsProper, Node}
+use Rattle.proof_outlines.proofs.Words.{Note, queue_at, at, opening_waiting, opening_on_links, first_owner, first_switch, first_instance, first_instances}
+use Rattle.proof_outlines.proofs.Words.{first_nodes, either_way, by_if, Unit, Target, InstanceState, split}
 use Rattle.std.specs.FinMap as finite
 use Rattle.std.proofs.Math.Seq.{get_or-append_seam}
 use Rattle.event_filter.proofs.RulePlaces.{one_each-none}
@@ -19,6 +19,7 @@ use Rattle.proof_outlines.proofs.joined.Words.{node_of, Scene, Joined, IsInstanc
 use Rattle.net_world.proofs.StartingLemmas.{length-first_instances}
 use Rattle.proof_outlines.proofs.joined.InputLemmas.{found_each, fits_flow, whole_is}
 use Rattle.proof_outlines.proofs.joined.Joined.{commands as numbers_of}
+use Rattle.proof_outlines.proofs.joined.Setting.{Setting, start}
 
 -- Routes.
 module _ (kind : Kind) where
@@ -50,7 +51,20 @@ module _ (kind : Kind) where
       ∙ split (takes r.0 u) (λ b. (if b then r.1 else route rs u) ≡ option_map_or (λ x. x.1) (if b then Some r else find (λ x. takes x.0 u) rs) 0) (λ _. refl)
       (λ _. route_is u fits rs h.1)
 
-module _ {R : Type 0} (f : Semantics R) (c : Config) (items : List Msg) (is : IsInput f.kind c items) where
+-- Packets.
+module _ {kind : Kind} (c : Config) (items : List Msg) (is : IsInput kind c items) where
+  fits_found : (number : ℕ) (ps : List Packet) → Each (IsSteered c.site) ps → Fits c.site (unwrap_or (find (λ p. p.number == number) ps) no_packet)
+  fits_found number [] h =
+      record { transport = refl; nanos = lit< tt; length = lit< tt; src = lit< tt; sport = lit< tt; dst = lit< tt; dport = lit< tt; inside = is.site }
+  fits_found number (p ∷ ps) h =
+      by_if (λ r. Fits c.site (unwrap_or r no_packet)) (p.number == number) h.0.fits (fits_found number ps h.1)
+
+  pub input_fits : (number : ℕ) → Fits c.site (packet_numbered items number)
+  input_fits number = fits_found number (packets items) (all_each (IsSteered c.site) (packets items) is.steered)
+
+module _ {F R : Type 0} (setting : Setting F R) where
+  open setting use {function as f, config as c, items, is_input as is}
+
   abbrev pub given : Given
   given = record { site = c.site; packet = packet_numbered items; names = c.names; orders = order_numbered items; first = λ u. first_owner u c.routes }
 
@@ -63,15 +77,9 @@ module _ {R : Type 0} (f : Semantics R) (c : Config) (items : List Msg) (is : Is
     pool = refl;
   }
 
-  fits_found : (number : ℕ) (ps : List Packet) → Each (IsSteered c.site) ps → Fits c.site (unwrap_or (find (λ p. p.number == number) ps) no_packet)
-  fits_found number [] h =
-      record { transport = refl; nanos = lit< tt; length = lit< tt; src = lit< tt; sport = lit< tt; dst = lit< tt; dport = lit< tt; inside = is.site }
-  fits_found number (p ∷ ps) h =
-      by_if (λ r. Fits c.site (unwrap_or r no_packet)) (p.number == number) h.0.fits (fits_found number ps h.1)
-
   -- the packet of any number fits its types
   pub all_fit : (number : ℕ) → Fits c.site (packet_numbered items number)
-  all_fit number = fits_found number (packets items) (all_each (IsSteered c.site) (packets items) is.steered)
+  all_fit = input_fits c items is
 
   pub genuine : Each (GenuinePacket f given) (packets items)
   genuine = each_both found_packet (packets items) (found_each (λ p. p.number) 0 (packets items) is.numbers)
@@ -182,9 +190,11 @@ same_numbers f g (Msg.InCommand k ∷ xs) = ap (λ ns. k.op ∷ ns) (same_number
 same_numbers f g (Msg.InPacket p ∷ xs) = same_numbers f g xs
 same_numbers f g (m ∷ xs) = same_numbers f g xs
 
-module _ (F : Type 0) {R : Type 0} (f : Semantics R) (alloc : Global) (c : Config) (items : List Msg) (is : IsInput f.kind c items) where
+module _ {F R : Type 0} (setting : Setting F R) where
+  open setting use {function as f, alloc, config as c, items, is_input as is}
+
   abbrev g : Given
-  g = given f c items is
+  g = given setting
 
   abbrev instances : ℕ → InstanceState F R
   instances (suc (suc i)) = first_instance alloc c i
@@ -195,7 +205,7 @@ module _ (F : Type 0) {R : Type 0} (f : Semantics R) (alloc : Global) (c : Confi
 
   abbrev world : WholeWorld (S f g) (A f g)
   world = record {
-    target = routed f c items is;
+    target = routed setting;
     ops = [];
     shares = [];
     next = 0;
@@ -256,9 +266,9 @@ module _ (F : Type 0) {R : Type 0} (f : Semantics R) (alloc : Global) (c : Confi
 
   pub shown_at_start : AreShown f g (length c.names + 2) scene
   shown_at_start = record {
-    switch = switch_is f c items is;
-    controller = controller_is f c items is;
-    owners = owners_are f c items is;
+    switch = switch_is setting;
+    controller = controller_is setting;
+    owners = owners_are setting;
     instances = λ k two few. instance_is k two;
     every = starts (S f g) (A f g) (is_sys f c.site (packet_numbered items)) world
         (record { shares = refl; links = λ i j off. refl; standby = no_standby }) (λ u. []) (λ u. false)
@@ -293,16 +303,15 @@ module _ (F : Type 0) {R : Type 0} (f : Semantics R) (alloc : Global) (c : Confi
   only_input i j off = let swapped : (j == 0) && (i == 0) ≡ false = grind (arith, nat_tests, off) in rw swapped refl
 
   -- the world at the start is one of a run
-  pub start_joined : Joined f g (length c.names + 2) (started_with {F = F} {R = R} alloc c items)
+  pub start_joined : Joined f g (length c.names + 2) (start setting)
   start_joined =
       let waits = opening_waiting Note (first_nodes {F = F} {R = R} alloc c) items (omega (arith, count_at_start)) in
       record {
         nodes = nodes;
         nodes_are = nodes_found;
         world = world;
-        links = λ i j hi hj off.
-            (let none : queue_at (started_with {F = F} {R = R} alloc c items) (at j i) ≡ [] = waits i j ∙ only_input i j off in rw none refl);
-        labels = opening_on_links Note (first_nodes {F = F} {R = R} alloc c) items (Label f g) (omega (arith, count_at_start)) (all_labelled f c items is);
+        links = λ i j hi hj off. (let none : queue_at (start setting) (at j i) ≡ [] = waits i j ∙ only_input i j off in rw none refl);
+        labels = opening_on_links Note (first_nodes {F = F} {R = R} alloc c) items (Label f g) (omega (arith, count_at_start)) (all_labelled setting);
         shown_is = subst (λ xs. AreShown f g (length c.names + 2) (record { nodes = nodes; world = world; log = []; input = xs })) (sym (waits 0 0))
             shown_at_start;
       }

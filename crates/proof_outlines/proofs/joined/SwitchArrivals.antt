@@ -12,8 +12,7 @@ use Rattle.std.proofs.lemmas.List.Elements.{filter_map-append}
 use Rattle.proof_outlines.proofs.joined.Words.{unit_fits, want_of, is_sys, asked_of, outline_all, is_sharing, want_share_of, asked_move, asked_share}
 use Rattle.proof_outlines.proofs.joined.Words.{asked_none, is_wanted, command_unseen, target_node, GoesToTarget, Given, place, is_diverted, owner_by}
 use Rattle.proof_outlines.proofs.joined.Words.{diverted_in, target_by, Genuine, GenuinePacket, IsCommand, IsSwitch, Label, S, A, asked_num, asked_nums, came_by}
-use Rattle.proof_outlines.proofs.joined.Words.{commands}
-use Rattle.proof_outlines.proofs.joined.Words.{is_of, shown, Scene, AreShown, Leads, same_grows}
+use Rattle.proof_outlines.proofs.joined.Words.{commands, is_of, shown, Scene, AreShown, Leads, same_grows}
 use Rattle.proof_outlines.proofs.whole.SwitchWorlds.{command_takes, packet_takes}
 use Rattle.proof_outlines.proofs.joined.LogLemmas.{diverted_in-append, every_same, owners_on, loose_on}
 use Rattle.proof_outlines.proofs.joined.OwnerLemmas.{unit_is_fit}

@@ -3,9 +3,8 @@ pub use Rattle.proof_outlines.proofs.joined.Given.{Given, place, IsPlan, IsInsta
 pub use Rattle.proof_outlines.proofs.joined.Given.{IsSharePlan, diverted_after, diverted_in}
 pub use Rattle.proof_outlines.proofs.joined.Joined.{count, Label, Joined, node_of, IsTaken, Leads, S, A, Scene, AreShown, IsController, IsShare, shown}
 pub use Rattle.proof_outlines.proofs.joined.Joined.{is_built, commands, came_by, asked_num, asked_nums, IsListed, IsMove, IsCopy, is_whole_if, Genuine}
-pub use Rattle.proof_outlines.proofs.joined.Joined.{AreGoodChunks}
-pub use Rattle.proof_outlines.proofs.joined.Joined.{HasPieces, AreFree, IsGoodPiece, Nodes, by_node, links_next, Grows, IsGoodChunk, IsCommand, IsInstanceAt}
-pub use Rattle.proof_outlines.proofs.joined.Joined.{Took, IsSwitch, Shows, is_of, IsOutAt, GenuinePacket, instance_stays}
+pub use Rattle.proof_outlines.proofs.joined.Joined.{AreGoodChunks, HasPieces, AreFree, IsGoodPiece, Nodes, by_node, links_next, Grows, IsGoodChunk, IsCommand}
+pub use Rattle.proof_outlines.proofs.joined.Joined.{IsInstanceAt, Took, IsSwitch, Shows, is_of, IsOutAt, GenuinePacket, instance_stays}
 pub use Rattle.proof_outlines.proofs.joined.NextNumbers.{same_grows}
 pub use Rattle.proof_outlines.proofs.outline.ControlOutline.{SeesMove, stored_after, Sees}
 pub use Rattle.proof_outlines.proofs.outline.ControllerWays.{row_by, row_fits}

@@ -1,5 +1,6 @@
 -- The choices of the workers lead from the start to a world in which nothing is left to do.
 use Rattle.std.proofs.Common.{subst}
+use Rattle.run_headline.specs.nf_net.specs.proof_outlines.proofs.joined.Setting.{setting_of}
 use Rattle.run_headline.specs.nf_net.proofs.length.ShortRuns.{short_runs}
 use Rattle.net_world.specs.Runs.{LeadsTo}
 use Rattle.run_headline.specs.nf_net.proofs.EveryRun.{keeps_all}
@@ -14,15 +15,15 @@ returns g c =
     let laws = (g.met.F.Function g.world.𝓛 g.world.𝓜 g.world.𝓡 ((λ s x. x), (λ x. x), (λ x. x), λ x. x)).laws in
     let leads = subst (λ v. LeadsTo {F = g.row.F.Denot} f v c.in_ok-world.choices c.in_ok-world.world) c.in_ok-opening.ensures
     c.in_ok-world.ensures.leads in
-    let all = keeps_all g.row.F.Denot f laws c.args.alloc c.args.config.now c.args.items.items c.requires c.in_ok-world.choices c.in_ok-world.world leads
-    c.in_ok-world.ensures.complete in
+    let setting = setting_of {F = g.row.F.Denot} f laws c.args.alloc c.args.config.now c.args.items.items c.requires in
+    let all = keeps_all setting c.in_ok-world.choices c.in_ok-world.world leads c.in_ok-world.ensures.complete in
     record {
       leads = leads;
       complete = c.in_ok-world.ensures.complete;
       promises = all.promises;
-      verdicts = verdicts g.row.F.Denot f laws c.args.alloc c.args.config.now c.args.items.items c.requires c.in_ok-world.choices leads.is_run;
-      standbys = standbys g.row.F.Denot f laws c.args.alloc c.args.config.now c.args.items.items c.requires c.in_ok-world.choices leads.is_run;
+      verdicts = verdicts setting c.in_ok-world.choices leads.is_run;
+      standbys = standbys setting c.in_ok-world.choices leads.is_run;
       completed = all.completed;
       home = all.home;
-      few = λ short. short_runs g.row.F.Denot f laws c.args.alloc c.args.config.now c.args.items.items c.requires short c.in_ok-world.choices leads.is_run;
+      few = λ short. short_runs setting short c.in_ok-world.choices leads.is_run;
     }

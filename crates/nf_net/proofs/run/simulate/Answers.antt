@@ -1,12 +1,14 @@
 -- A world at its start, run by a schedule to its end, keeps the promises.
+use Rattle.nf_net.proofs.Words.{setting_of}
 use Rattle.nf_net.proofs.EveryRun.{Ends, ends, stops}
 use Rattle.nf_net.proofs.run.simulate.Given.{Over}
 use Rattle.nf_net.proofs.run.simulate.Goals as goal
 use Rattle.nf_net.proofs.run.simulate.Goals.{After-run_by_schedule}
 
-ended : (g : Over) (c : After-run_by_schedule g) → Ends g.row.F.Denot g.F.Function.semantics g.met.F.Function.laws c.args.alloc c.args.config.now
-    c.args.items.items c.requires c.args.schedule c.run_by_schedule.result
-ended g c = ends g.row.F.Denot g.F.Function.semantics g.met.F.Function.laws c.args.alloc c.args.config.now c.args.items.items c.requires
+ended : (g : Over) (c : After-run_by_schedule g) → Ends
+    (setting_of {F = g.row.F.Denot} g.F.Function.semantics g.met.F.Function.laws c.args.alloc c.args.config.now c.args.items.items c.requires) c.args.schedule
+    c.run_by_schedule.result
+ended g c = ends (setting_of {F = g.row.F.Denot} g.F.Function.semantics g.met.F.Function.laws c.args.alloc c.args.config.now c.args.items.items c.requires)
     c.args.schedule c.run_by_schedule.result c.in_ok-world.world c.in_ok-world.ensures c.run_by_schedule.ensures.choices c.run_by_schedule.ensures.world
     c.run_by_schedule.ensures.run c.run_by_schedule.ensures.complete
 
@@ -28,8 +30,8 @@ returns-clause-home g c = (ended g (goal.at.returns-clause-home g c).After-run_b
 pub returns-clause-unfinished : goal.returns-clause-unfinished
 returns-clause-unfinished g c step is =
     let short = c.run_by_schedule.ensures.unfinished step is in
-    stops g.row.F.Denot g.F.Function.semantics g.met.F.Function.laws c.args.alloc c.args.config.now c.args.items.items c.requires c.args.schedule
-    c.in_ok-world.world c.in_ok-world.ensures step short.0 short.1
+    stops (setting_of {F = g.row.F.Denot} g.F.Function.semantics g.met.F.Function.laws c.args.alloc c.args.config.now c.args.items.items c.requires)
+    c.args.schedule c.in_ok-world.world c.in_ok-world.ensures step short.0 short.1
 
 pub returns-clause-verdicts : goal.returns-clause-verdicts
 returns-clause-verdicts g c = (ended g (goal.at.returns-clause-verdicts g c).After-run_by_schedule).verdicts

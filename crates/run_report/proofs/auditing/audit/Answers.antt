@@ -2,6 +2,7 @@
 use Rattle.std.proofs.Common.{Result, Ok, Err, IfOk}
 use Rattle.std.proofs.lemmas.Result.{IfOk-weaker}
 use Rattle.net_world.specs.Start.{started_with}
+use Rattle.nf_net.specs.proof_outlines.proofs.joined.Setting.{setting_of}
 use Rattle.nf_net.proofs.EveryRun.{every_run, every_end, every_home}
 use Rattle.nf_net.proofs.JudgedRuns.{verdicts}
 use Rattle.nf_net.proofs.StandbyRuns.{standbys}
@@ -25,26 +26,28 @@ returns-clause-text g c =
 
 pub returns-clause-promises : goal.returns-clause-promises
 returns-clause-promises g c input =
-    of_any c.report_ended-text.result (every_run _ _ g.met.F.Function.laws _ _ _ input _ c.in_ok-world.ensures.leads.is_run)
+    of_any c.report_ended-text.result (every_run (setting_of _ g.met.F.Function.laws _ _ _ input) _ c.in_ok-world.ensures.leads.is_run)
 
 pub returns-clause-verdicts : goal.returns-clause-verdicts
 returns-clause-verdicts g c input =
-    of_any c.report_ended-text.result (verdicts _ _ g.met.F.Function.laws _ _ _ input _ c.in_ok-world.ensures.leads.is_run)
+    of_any c.report_ended-text.result (verdicts (setting_of _ g.met.F.Function.laws _ _ _ input) _ c.in_ok-world.ensures.leads.is_run)
 
 pub returns-clause-standbys : goal.returns-clause-standbys
 returns-clause-standbys g c input =
-    of_any c.report_ended-text.result (standbys _ _ g.met.F.Function.laws _ _ _ input _ c.in_ok-world.ensures.leads.is_run)
+    of_any c.report_ended-text.result (standbys (setting_of _ g.met.F.Function.laws _ _ _ input) _ c.in_ok-world.ensures.leads.is_run)
 
 pub returns-clause-completed : goal.returns-clause-completed
 returns-clause-completed g c input =
     IfOk-weaker c.report_ended-text.result _ _
-    (λ t done. every_end g.row.F.Denot g.F.Function.semantics g.met.F.Function.laws c.args.alloc c.args.config.now c.args.items.items input c.args.choices.now
+    (λ t done. every_end
+    (setting_of {F = g.row.F.Denot} g.F.Function.semantics g.met.F.Function.laws c.args.alloc c.args.config.now c.args.items.items input) c.args.choices.now
     c.in_ok-world.ensures.leads.is_run (complete g.F.Function.semantics _ _ _ c.in_ok-world.ensures.leads done).complete) c.report_ended-text.ensures.complete
 
 pub returns-clause-home : goal.returns-clause-home
 returns-clause-home g c input =
     IfOk-weaker c.report_ended-text.result _ _
-    (λ t done. every_home g.row.F.Denot g.F.Function.semantics g.met.F.Function.laws c.args.alloc c.args.config.now c.args.items.items input c.args.choices.now
+    (λ t done. every_home
+    (setting_of {F = g.row.F.Denot} g.F.Function.semantics g.met.F.Function.laws c.args.alloc c.args.config.now c.args.items.items input) c.args.choices.now
     c.in_ok-world.ensures.leads.is_run (complete g.F.Function.semantics _ _ _ c.in_ok-world.ensures.leads done).complete) c.report_ended-text.ensures.complete
 
 pub returns-clause-not_a_run : goal.returns-clause-not_a_run

@@ -6,6 +6,7 @@ use Rattle.standby_failover.specs.Causes.{first_of, world_after}
 use Rattle.standby_failover.specs.Failover.{IsLeft, IsPromoted}
 use Rattle.standby_failover.specs.Scenes.{AreAffected, Stopped, failover_in}
 use Rattle.standby_failover.proofs.Known.{known}
+use Rattle.nf_net.specs.proof_outlines.proofs.joined.Setting.{setting_of}
 use Rattle.standby_failover.proofs.LeftWorlds.{is_left}
 use Rattle.standby_failover.proofs.promoting.promote_with.Given.{Over}
 use Rattle.standby_failover.proofs.promoting.promote_with.Goals as goal
@@ -24,7 +25,7 @@ stopped g c = record {
 
 left : (g : Over) (c : In_ok-promoted g) → IsLeft (failover_in g.F.Function.semantics (stopped g c))
 left g c =
-    is_left g.row.F.Denot g.F.Function.semantics g.met.F.Function.laws c.args.alloc c.args.config.now c.args.items.items c.requires.input _
+    is_left (setting_of {F = g.row.F.Denot} g.F.Function.semantics g.met.F.Function.laws c.args.alloc c.args.config.now c.args.items.items c.requires.input) _
     c.args.failing.now.failed
     c.args.failing.now.to
     c.in_ok-world.ensures.reached.is_run

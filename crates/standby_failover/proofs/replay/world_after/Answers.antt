@@ -10,6 +10,7 @@ use Rattle.net_world.specs.Runs.{LeadsTo}
 use Rattle.net_world.specs.Start.{started_with}
 use Rattle.net_world.specs.Tables.{is_instance}
 use Rattle.standby_failover.specs.Causes.{FirstChoices, first_of, taken_among}
+use Rattle.nf_net.specs.proof_outlines.proofs.joined.Setting.{setting_of}
 use Rattle.standby_failover.proofs.InstancesThere.{are_there}
 use Rattle.standby_failover.proofs.ReplayLemmas.{is_reached, too_few}
 use Rattle.standby_failover.proofs.replay.world_after.Given.{Over}
@@ -39,8 +40,9 @@ pub returns-clause-instances : goal.returns-clause-instances
 returns-clause-instances g c = λ i within.
     let b = (goal.at.returns-clause-instances g c).In_ok-world in
     subst (λ w. is_instance (slice_get w.nodes (instance_node i)) ≡ true) (sym (led g b).reached)
-    (are_there g.row.F.Denot g.F.Function.semantics g.met.F.Function.laws c.args.alloc c.args.config.now c.args.items.items c.requires (taken_among (first g b))
-    (led g b).is_run i within)
+    (are_there
+    (setting_of {F = g.row.F.Denot} g.F.Function.semantics g.met.F.Function.laws c.args.alloc c.args.config.now c.args.items.items c.requires)
+    (taken_among (first g b)) (led g b).is_run i within)
 
 pub returns-then-after-count-clause-not_a_run : goal.returns-then-after-count-clause-not_a_run
 returns-then-after-count-clause-not_a_run g c = λ step is.

@@ -3,6 +3,7 @@ use Rattle.std.proofs.Common.{Some, ap, refl, rules, sym, ◌≡◌, ◌∙◌, 
 use Rattle.std.proofs.lemmas.Result.{IfOk-weaker}
 use Rattle.nf_function.specs.declared.kind.Kind.{Kind}
 use Rattle.command_words.specs.RequestViews.{network_view}
+use Rattle.run_headline.specs.nf_net.specs.proof_outlines.proofs.joined.Setting.{setting_of}
 use Rattle.run_headline.specs.nf_net.proofs.length.ShortRuns.{short_runs}
 use Rattle.net_world.specs.Input.{IsInput}
 use Rattle.net_world.specs.Runs.{LeadsTo, choices_of}
@@ -14,6 +15,7 @@ use Rattle.network_calls.specs.RunSteps.{made_with}
 use Rattle.network_calls.proofs.RunLemmas.{run_of}
 use Rattle.network_calls.proofs.RunsEnd.{never_stops}
 use Rattle.network_calls.proofs.network.ScheduledForFunction.call.Goals as goal
+use Rattle.proof_outlines.proofs.joined.Setting.{start}
 
 pub unreachable-requires : goal.unreachable-requires
 unreachable-requires g c =
@@ -47,7 +49,8 @@ returns g c =
       standbys = c.in-Ok.ensures.standbys;
       completed = c.in-Ok.ensures.completed;
       home = c.in-Ok.ensures.home;
-      few = short_runs g.row.F.Denot f g.met.F.Function.laws c.args.self.alloc opening.config opening.items.items input is.short c.in-Ok.ended.1 leads.is_run;
+      few = short_runs (setting_of {F = g.row.F.Denot} f g.met.F.Function.laws c.args.self.alloc opening.config opening.items.items input) is.short
+          c.in-Ok.ended.1 leads.is_run;
       input = is.is_input;
       kind = c.requires.0;
     }) (λ schedule same. let by : c.args.self.schedule ≡ schedule = cc in c.in-Ok.ensures.choices ∙ ap (λ k. choices_of {F = g.row.F.Denot} f start k) by)

@@ -4,11 +4,13 @@ use Rattle.nf_function.specs.declared.kind.Kind.{Kind}
 use Rattle.command_words.specs.RequestViews.{network_view}
 use Rattle.net_world.specs.Input.{IsInput}
 use Rattle.net_world.specs.Start.{started_with}
+use Rattle.run_headline.specs.nf_net.specs.proof_outlines.proofs.joined.Setting.{setting_of}
 use Rattle.run_headline.specs.nf_net.proofs.length.ShortRuns.{short_runs}
 use Rattle.run_headline.specs.run_report.specs.Audits.{world_after}
 use Rattle.call_files.specs.Phases.{scenario_of}
 use Rattle.network_calls.proofs.RunLemmas.{run_of, run_refused}
 use Rattle.network_calls.proofs.network.ToldForFunction.call.Goals as goal
+use Rattle.proof_outlines.proofs.joined.Setting.{start}
 
 pub returns-in-Err : goal.returns-in-Err
 returns-in-Err g c =
@@ -38,8 +40,9 @@ returns-in-Ok g c =
             standbys = report.standbys input;
             completed = report.completed input;
             home = report.home input;
-            few = short_runs g.row.F.Denot g.F.Function.semantics g.met.F.Function.laws c.args.self.alloc opening.config opening.items.items input is.short
-                c.args.self.choices report.run.leads.is_run;
+            few = short_runs
+                (setting_of {F = g.row.F.Denot} g.F.Function.semantics g.met.F.Function.laws c.args.self.alloc opening.config opening.items.items input)
+                is.short c.args.self.choices report.run.leads.is_run;
             input = is.is_input;
             kind = c.requires.0;
           }) (λ schedule same. cc) is.head report.text,
