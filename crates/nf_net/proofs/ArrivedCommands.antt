@@ -1,7 +1,7 @@
 -- Of every run: where a command has begun, the packets that stand before it in the input have come.
-use Rattle.nf_net.proofs.Words.{◌≡◌, ℕ, ◌+◌, ◌<◌, ◌≤◌, true, false, List, [], ◌∷◌, ◌++◌, length, length-append, sym, ap, ◌∙◌, subst, arith, nat_lt}
-use Rattle.nf_net.proofs.Words.{nat_tests, length-map, Command, Msg, Note, Choice, Network, queue_at, at, Each}
-use Rattle.nf_net.proofs.Words.{Node, is_begun, has_answered, commands, arrivals_in, given, split, Setting, IsCourse, world_of}
+use Rattle.nf_net.proofs.Words.{◌≡◌, ℕ, ◌+◌, ◌<◌, ◌≤◌, true, false, List, [], ◌∷◌, ◌++◌, length, length-append, sym, ap, ◌∙◌, subst, arith, nat_lt, nat_tests}
+use Rattle.nf_net.proofs.Words.{length-map, Command, Msg, Note, Choice, Network, queue_at, at, Each, Node, is_begun, has_answered, commands, arrivals_in, given}
+use Rattle.nf_net.proofs.Words.{split, Setting, IsCourse, world_of}
 use Rattle.net_world.specs.Input.{packets}
 use Rattle.nf_net.proofs.answers.ArrivalLemmas.{numbers, runs_joined}
 use Rattle.nf_net.proofs.RunWords.{is_noted, or_off, run_busy}

@@ -1,9 +1,9 @@
 -- In every run, a packet that came when a share had its unit is processed at its member.
 use Rattle.nf_net.proofs.Words.{◌≡◌, ℕ, ◌+◌, ◌≤◌, Bool, true, Some, List, [], ◌∷◌, ◌++◌, length, append_assoc, refl, sym, ap, ◌∙◌, arith, if◌then◌else◌, ◌==◌}
-use Rattle.nf_net.proofs.Words.{is_some, filter, nat_tests, Output, same_unit_equiv, Msg, Note, instance_node, Choice, Network}
-use Rattle.nf_net.proofs.Words.{Ran, ran_of, Node, times_installed, is_of, packet_numbered, arrivals_in, dones_in, installs_in}
-use Rattle.nf_net.proofs.Words.{first_owner, members, member_for, unit_numbered, done-append, is_sys, Given, is_diverted, S, A, by_node}
-use Rattle.nf_net.proofs.Words.{came_by, Joined, by_node-append, AllApart, Runs, run_beside, same_times, given, Unit, split, Setting, IsCourse, world_of}
+use Rattle.nf_net.proofs.Words.{is_some, filter, nat_tests, Output, same_unit_equiv, Msg, Note, instance_node, Choice, Network, Ran, ran_of, Node}
+use Rattle.nf_net.proofs.Words.{times_installed, is_of, packet_numbered, arrivals_in, dones_in, installs_in, first_owner, members, member_for, unit_numbered}
+use Rattle.nf_net.proofs.Words.{done-append, is_sys, Given, is_diverted, S, A, by_node, came_by, Joined, by_node-append, AllApart, Runs, run_beside, same_times}
+use Rattle.nf_net.proofs.Words.{given, Unit, split, Setting, IsCourse, world_of}
 use Rattle.proof_machines.proofs.unit.Stages as stages
 use Rattle.net_world.specs.Fold.{times}
 use Rattle.net_world.specs.Places.{AreAtMembers}

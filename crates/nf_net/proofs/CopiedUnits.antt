@@ -1,11 +1,11 @@
 -- As long as a copy is open, no move and no share takes a unit of its filter. So the unit rests: what its owner has of it has seen all of its packets
 -- that were processed, and no other instance has anything of it.
 use Rattle.nf_net.proofs.Words.{◌≡◌, ℕ, ◌<◌, ◌≤◌, inl, inr, true, false, Some, None, List, [], ◌∷◌, length, refl, sym, ap, ◌∙◌, subst, arith, if◌then◌else◌}
-use Rattle.nf_net.proofs.Words.{◌==◌, slice_get, is_some, Decides-eqb, slice_get-get_or, Filter, takes, same_unit-true, Msg, Note, instance_node}
-use Rattle.nf_net.proofs.Words.{CopyState, Copy, Move, Network, queue_at, self, shape, each_map, Open, unit_share, as_share, moves_of, seeing, Where}
-use Rattle.nf_net.proofs.Words.{WhereAll, Apart_from_shares, Under_share, Node, is_of, processed_of, dones_in, done_where, owner}
-use Rattle.nf_net.proofs.Words.{unit_numbered, live_at, live_in, is_whole, takes_same, unit_fits, is_sys, Given, S, A, came_by, Joined, Scene, AreApart}
-use Rattle.nf_net.proofs.Words.{AllApart, done_same, given, Unit, Instance, split, Setting}
+use Rattle.nf_net.proofs.Words.{◌==◌, slice_get, is_some, Decides-eqb, slice_get-get_or, Filter, takes, same_unit-true, Msg, Note, instance_node, CopyState}
+use Rattle.nf_net.proofs.Words.{Copy, Move, Network, queue_at, self, shape, each_map, Open, unit_share, as_share, moves_of, seeing, Where, WhereAll}
+use Rattle.nf_net.proofs.Words.{Apart_from_shares, Under_share, Node, is_of, processed_of, dones_in, done_where, owner, unit_numbered, live_at, live_in}
+use Rattle.nf_net.proofs.Words.{is_whole, takes_same, unit_fits, is_sys, Given, S, A, came_by, Joined, Scene, AreApart, AllApart, done_same, given, Unit}
+use Rattle.nf_net.proofs.Words.{Instance, split, Setting}
 use Rattle.std.specs.Prelude.{map}
 use Rattle.std.specs.FinMap as finite
 use Rattle.actor_net.proofs.EnabledChoices.{at as at_node}

@@ -1,12 +1,12 @@
 -- In every run what a copy of units brings is known on each link; and where the copy is answered that it is done, what its source had, or what is newer,
 -- stood by at its destination.
 use Rattle.nf_net.proofs.Words.{◌≡◌, ℕ, zero, suc, ◌+◌, ◌≤◌, true, false, inl, inr, Some, None, List, [], ◌∷◌, ◌++◌, append-nil, length, refl, sym, ap, ◌∙◌}
-use Rattle.nf_net.proofs.Words.{subst, arith, ◌==◌, slice_get, nat_tests, slice_get-get_or, Filter, Chunk, Semantics, Msg, Note, units_in}
-use Rattle.nf_net.proofs.Words.{instance_node, InstanceState, selected_chunks, instance_step, switch_step, Choice, Network, run, world_next, at}
-use Rattle.nf_net.proofs.Words.{opening_on_links, run_more, Takes, taken_outcome, EachSent, OnLinks, on_links_after, total_after, Config, Node, answers_of}
-use Rattle.nf_net.proofs.Words.{is_begun, IsFront, processed_of, is_item, most_counted, job_of, node_step, live_at, live_in, StandsBy}
-use Rattle.nf_net.proofs.Words.{first_nodes, exported_for, before_export, answers_of-append, all_each, Given, Label, Joined, node_of, given, count_at_start}
-use Rattle.nf_net.proofs.Words.{Unit, Done, Instance, UnitCopy, IsOrdered, Runs, Setting, start, IsCourse, world_of}
+use Rattle.nf_net.proofs.Words.{subst, arith, ◌==◌, slice_get, nat_tests, slice_get-get_or, Filter, Chunk, Semantics, Msg, Note, units_in, instance_node}
+use Rattle.nf_net.proofs.Words.{InstanceState, selected_chunks, instance_step, switch_step, Choice, Network, run, world_next, at, opening_on_links, run_more}
+use Rattle.nf_net.proofs.Words.{Takes, taken_outcome, EachSent, OnLinks, on_links_after, total_after, Config, Node, answers_of, is_begun, IsFront, processed_of}
+use Rattle.nf_net.proofs.Words.{is_item, most_counted, job_of, node_step, live_at, live_in, StandsBy, first_nodes, exported_for, before_export}
+use Rattle.nf_net.proofs.Words.{answers_of-append, all_each, Given, Label, Joined, node_of, given, count_at_start, Unit, Done, Instance, UnitCopy, IsOrdered}
+use Rattle.nf_net.proofs.Words.{Runs, Setting, start, IsCourse, world_of}
 use Rattle.std.specs.FinMap as finite
 use Rattle.nf_function.specs.Units as filters
 use Rattle.instance_worker.specs.Instance.{on_get}

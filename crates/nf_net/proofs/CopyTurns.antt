@@ -2,9 +2,9 @@
 use Rattle.nf_net.proofs.Words.{◌≡◌, ℕ, Bool, true, false, Option, Some, None, List, [], ◌∷◌, ◌++◌, map, refl, sym, ap, ◌∙◌, subst, arith, if◌then◌else◌, ◌==◌}
 use Rattle.nf_net.proofs.Words.{◌||◌, or-true, Decides-eqb, nat_tests, Filter, place_of, Chunk, stored_of, FullCell, Answer, Order, Msg, Note, op_of}
 use Rattle.nf_net.proofs.Words.{instance_node, MoveState, MoveRow, row_in, CopyState, ShareState, Operation, Move, Copy, Share, turn_of, turn_of_move}
-use Rattle.nf_net.proofs.Words.{turn_of_copy, ControllerState, Choice, Network, EachSent, Each, Open, OpenShare, Node, is_begun, answers_of}
-use Rattle.nf_net.proofs.Words.{has_begun-append, sent-append, row_by, CopyTurn, Idle, Hands, Hands_all, Ends, hands, copy_turn, NotShared, noted, is_uncopied}
-use Rattle.nf_net.proofs.Words.{all_sent, TurnSo, Given, IsCopyPlan, Label, given, Done, UnitCopy, IsOrdered, split, Setting, start}
+use Rattle.nf_net.proofs.Words.{turn_of_copy, ControllerState, Choice, Network, EachSent, Each, Open, OpenShare, Node, is_begun, answers_of, has_begun-append}
+use Rattle.nf_net.proofs.Words.{sent-append, row_by, CopyTurn, Idle, Hands, Hands_all, Ends, hands, copy_turn, NotShared, noted, is_uncopied, all_sent, TurnSo}
+use Rattle.nf_net.proofs.Words.{Given, IsCopyPlan, Label, given, Done, UnitCopy, IsOrdered, split, Setting, start}
 use Rattle.std.specs.FinMap as finite
 use Rattle.copy_share.specs.Copy as copying
 use Rattle.ctrl_node.specs.Controller as ctrl

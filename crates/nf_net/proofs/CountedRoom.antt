@@ -1,6 +1,6 @@
 -- In every run no more is processed of a unit than a record counts.
-use Rattle.nf_net.proofs.Words.{ℕ, suc, ◌+◌, ◌≤◌, Bool, List, [], ◌∷◌, length, arith, if◌then◌else◌, length-map, Msg, Note}
-use Rattle.nf_net.proofs.Words.{Network, Node, is_of, processed_of, most_counted, arrivals_in, dones_in, done_where, Unit, split, Setting}
+use Rattle.nf_net.proofs.Words.{ℕ, suc, ◌+◌, ◌≤◌, Bool, List, [], ◌∷◌, length, arith, if◌then◌else◌, length-map, Msg, Note, Network, Node, is_of, processed_of}
+use Rattle.nf_net.proofs.Words.{most_counted, arrivals_in, dones_in, done_where, Unit, split, Setting}
 use Rattle.net_world.specs.Input.{packets}
 use Rattle.net_world.specs.Log.{Done}
 use Rattle.nf_net.proofs.answers.ArrivalLemmas.{numbers, InRun}

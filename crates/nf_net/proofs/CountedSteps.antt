@@ -1,9 +1,9 @@
 -- Each choice of a run keeps that the switch counts the commands that wait for their answer.
 use Rattle.nf_net.proofs.Words.{◌≡◌, ◌≢◌, ℕ, zero, suc, ◌+◌, ◌<◌, ◌≤◌, Bool, true, false, List, [], ◌∷◌, ◌++◌, length, length-append, drop, append_assoc, refl}
-use Rattle.nf_net.proofs.Words.{sym, ap, ◌∙◌, subst, arith, ◌&&◌, ◌==◌, nat_lt, nat_tests, Decides-eqb, Decides-ltb, Answer}
-use Rattle.nf_net.proofs.Words.{Msg, Note, SwitchState, switch_step, takes_in, controller_step, Network, reaches, world_next, queue_at, at, Takes}
-use Rattle.nf_net.proofs.Words.{taken_outcome, less_first, EachSent, total, sent_weight, total_after, Node, Switch, has_answered, answers_of, commands}
-use Rattle.nf_net.proofs.Words.{node_step, node_ready, answers_of-append, known, Given, Label, Joined, node_of, given, split, Setting}
+use Rattle.nf_net.proofs.Words.{sym, ap, ◌∙◌, subst, arith, ◌&&◌, ◌==◌, nat_lt, nat_tests, Decides-eqb, Decides-ltb, Answer, Msg, Note, SwitchState}
+use Rattle.nf_net.proofs.Words.{switch_step, takes_in, controller_step, Network, reaches, world_next, queue_at, at, Takes, taken_outcome, less_first, EachSent}
+use Rattle.nf_net.proofs.Words.{total, sent_weight, total_after, Node, Switch, has_answered, answers_of, commands, node_step, node_ready, answers_of-append}
+use Rattle.nf_net.proofs.Words.{known, Given, Label, Joined, node_of, given, split, Setting}
 use Rattle.actor_net.specs.Network.{is_input}
 use Rattle.nf_net.proofs.RunWords.{answering, other_not_answered, switch_hands, instance_says, Busy, SaysSo, SaysSo.Neither, SaysSo.Begins, SaysSo.Answers}
 use Rattle.nf_net.proofs.RunWords.{controller_acts}

@@ -1,7 +1,7 @@
 -- Every run keeps the promises, and a complete one those of its end.
-use Rattle.nf_net.proofs.Words.{◌≡◌, ◌≢◌, ℕ, true, Ok, List, length, sym, ap, subst, ◌∙◌, Msg, Note, Choice, StopsShort}
-use Rattle.nf_net.proofs.Words.{Network, IsRun, is_done, run, Node, course_of, job_of, node_step, node_ready, node_ended}
-use Rattle.nf_net.proofs.Words.{AllHome, Completed, Standbys, Verdicts, Setting, start, IsCourse, world_of}
+use Rattle.nf_net.proofs.Words.{◌≡◌, ◌≢◌, ℕ, true, Ok, List, length, sym, ap, subst, ◌∙◌, Msg, Note, Choice, StopsShort, Network, IsRun, is_done, run, Node}
+use Rattle.nf_net.proofs.Words.{course_of, job_of, node_step, node_ready, node_ended, AllHome, Completed, Standbys, Verdicts, Setting, start, IsCourse}
+use Rattle.nf_net.proofs.Words.{world_of}
 use Rattle.std.proofs.Common.{Result, Err, IfOk}
 use Rattle.actor_net.specs.declared.schedule.Schedule.{Schedule}
 use Rattle.actor_net.specs.declared.replays.ReplayFault.{ReplayFault}

@@ -1,14 +1,13 @@
 -- Where an instance processes packets of a unit, the record that it steps is the fold of all that was done of the unit before: by a message of a move its
 -- live record, also where a share has the unit, and by one of a share the record in the table that the message names.
-use Rattle.nf_net.proofs.Words.{◌≡◌, ◌≢◌, ℕ, Bool, true, false, Option, Some, None, List, [], ◌∷◌, inl, inr, refl, ap, ◌∙◌, if◌then◌else◌, ◌==◌}
-use Rattle.nf_net.proofs.Words.{Decides-eqb, M_fenced, M_install, M_fence_to, where_true, UnitShare, Sys, IsSys, inst_step, none_mine}
-use Rattle.nf_net.proofs.Words.{done_u, GlobalAll, unit_share, share_seen, own_at, does, Under, seeing}
-use Rattle.nf_net.proofs.Words.{Any, olds, Sharing, IsSharing, WantShare, WholeWorld, moves_of, ran_of, SeeingShare, Came, WhereAll, Apart_from_shares}
-use Rattle.nf_net.proofs.Words.{Under_share, processed_where, same_unit, Unit, split}
+use Rattle.nf_net.proofs.Words.{◌≡◌, ◌≢◌, ℕ, Bool, true, false, Option, Some, None, List, [], ◌∷◌, inl, inr, refl, ap, ◌∙◌, if◌then◌else◌, ◌==◌, Decides-eqb}
+use Rattle.nf_net.proofs.Words.{MoveMsg, where_true, UnitShare, Sys, IsSys, inst_step, none_mine, done_u, GlobalAll, unit_share, share_seen, own_at, does}
+use Rattle.nf_net.proofs.Words.{Under, seeing, Any, olds, Sharing, IsSharing, ShareAsked, WholeWorld, moves_of, ran_of, SeeingShare, Came, WhereAll}
+use Rattle.nf_net.proofs.Words.{Apart_from_shares, Under_share, processed_where, same_unit, Unit, split}
 use Rattle.proof_machines.proofs.unit.Real
 use Rattle.proof_machines.proofs.share.Share.{Item, Item.Carry, Item.Fence, Item.Shared, Item.Fenced, Item.Stray, runs}
 use Rattle.proof_machines.proofs.share.Heads.{Meets, meets_sw, meets_to}
-use Rattle.proof_machines.proofs.net.Net.{Msg, Msg.In_packet, Msg.Asked, Msg.Carry_on, Msg.Pass_on, Msg.Fence_on, Msg.Mv, at_node}
+use Rattle.proof_machines.proofs.net.Net.{Msg, Msg.In_packet, Msg.Asked, Msg.Carry_on, Msg.Pass_on, Msg.Fence_on, Msg.Of_move, at_node}
 use Rattle.proof_machines.proofs.net.Readings.{fold}
 use Rattle.proof_machines.proofs.net.ShareViews.{mine, move_seen, old_seen}
 use Rattle.proof_machines.proofs.net.UnderReadings.{FreshAt, first_item, under_fresh}
@@ -30,17 +29,17 @@ module _ {R : Type 0} (S : Sys R) (A : Sharing S) (laws : IsSys S) (u : Unit) wh
   not_shared true it q other e = let same : it ≡ Shared q = cc in other same
   not_shared false it q other e = cc
 
-  move_unshared : (z : SeeingShare) (m : Real.Msg R) (q : ℕ) → move_seen S A z m ≡ Some (Shared q) → ⊥
-  move_unshared z (M_fenced n) q e = not_shared (n == z.num) Fenced q (λ s. cc) e
-  move_unshared z (M_install n from to) q e = not_shared (n == z.num) Stray q (λ s. cc) e
-  move_unshared z (M_fence_to n to) q e = not_shared (n == z.num) Stray q (λ s. cc) e
+  move_unshared : (z : SeeingShare) (m : MoveMsg R) (q : ℕ) → move_seen S A z m ≡ Some (Shared q) → ⊥
+  move_unshared z (MoveMsg.Fenced n) q e = not_shared (n == z.num) Fenced q (λ s. cc) e
+  move_unshared z (MoveMsg.Install n from to) q e = not_shared (n == z.num) Stray q (λ s. cc) e
+  move_unshared z (MoveMsg.Fence_to n to) q e = not_shared (n == z.num) Stray q (λ s. cc) e
   move_unshared z m q e = cc
 
   old_unshared : (z : SeeingShare) (m : Msg R) (q : ℕ) → old_seen S A z m ≡ Some (Shared q) → ⊥
   old_unshared z (Carry_on p) q e = not_shared (mine S A z p) (Carry p) q (λ s. cc) e
   old_unshared z (Pass_on p) q e = not_shared (mine S A z p) Stray q (λ s. cc) e
   old_unshared z (Fence_on n) q e = not_shared (n == z.num) Fence q (λ s. cc) e
-  old_unshared z (Mv g m) q e = move_unshared z m q e
+  old_unshared z (Of_move g m) q e = move_unshared z m q e
   old_unshared z (In_packet p) q e = cc
   old_unshared z (Asked x) q e = cc
 
@@ -52,7 +51,7 @@ module _ {R : Type 0} (S : Sys R) (A : Sharing S) (laws : IsSys S) (u : Unit) wh
       some_ran none = some (none_of y (inst_step S (w.inst y) m).ran none)
 
       -- where a share has the unit, it comes to the home
-      module _ (x : WantShare) (before since : List ℕ) (h : Under S A (seeing S A u x) w before since) where
+      module _ (x : ShareAsked) (before since : List ℕ) (h : Under S A (seeing S A u x) w before since) where
         abbrev z : SeeingShare
         z = seeing S A u x
 

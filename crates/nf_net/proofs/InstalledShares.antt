@@ -2,12 +2,13 @@
 -- and isn't answered before, if its home owns a unit that it takes.
 use Rattle.nf_net.proofs.Words.{◌≡◌, ℕ, zero, suc, ◌+◌, ◌≤◌, true, false, Option, Some, None, List, [], ◌∷◌, ◌++◌, length, append-nil, refl, sym, ap, ◌∙◌}
 use Rattle.nf_net.proofs.Words.{subst, arith, option_or, Filter, Semantics, takes, Msg, Note, instance_node, switch_step, Share, controller_step, Choice}
-use Rattle.nf_net.proofs.Words.{Network, queue_at, behind_nil, where_two, OfShare, new_head, Any, S_install, moves_of, seeing, no_change, WhereAll}
+use Rattle.nf_net.proofs.Words.{Network, queue_at, behind_nil, where_two, OfShare, new_head, Any, ShareMsg, moves_of, seeing, no_change, WhereAll}
 use Rattle.nf_net.proofs.Words.{Apart_from_shares, Under_share, Config, Node, is_begun, has_answered, times_installed, order_numbered, installs_in, node_step}
 use Rattle.nf_net.proofs.Words.{first_owner, owner_after_order, owner_after, is_home, shared_among, members_after, owner, members, installed-append, is_whole}
 use Rattle.nf_net.proofs.Words.{unit_fits, takes_whole, takes_same, is_sys, real_share, Given, place, owner_next, S, A, Joined, came_by, Scene, IsTaken}
 use Rattle.nf_net.proofs.Words.{node_of, scene, Wants, node_leads, AllApart, installed_same, installed_quiet, installed_none, Stands, In_first, In_second}
 use Rattle.nf_net.proofs.Words.{stands, instance_quiet, controller_uninstalled, Runs, given, all_fit, Unit, Order, nowhere, Setting, start, IsCourse, world_of}
+use Rattle.nf_net.proofs.Words.{MoveMsg}
 use Rattle.actor_net.proofs.EnabledChoices.{at as at_node}
 use Rattle.proof_machines.proofs.unit.Real as real
 use Rattle.proof_machines.proofs.net.Net as net
@@ -104,7 +105,7 @@ module _ {F R : Type 0} (setting : Setting F R) (n : ℕ) (count_is : n ≡ leng
   -- a move takes no unit that a share has
   not_moved : (u : Unit) → unit_fits f.kind u ≡ true → (ms : List (List ℕ)) → members c items u w.log ≡ Some ms
       → (k : ℕ) (filter : Filter) (from dst : ℕ) (rest : List (Any R)) → is_whole f.kind filter ≡ true
-      → j.world.link 1 0 ≡ Old (net.Mv filter (real.M_install k from dst)) ∷ rest → takes filter u ≡ false
+      → j.world.link 1 0 ≡ Old (net.Of_move filter (MoveMsg.Install k from dst)) ∷ rest → takes filter u ≡ false
   not_moved u fits ms e k filter from dst rest whole waits = sym (takes_same f.kind filter u whole fits) ∙ by_where (j.shown_is.every.unit u)
     where
       by_where : WhereAll (S f g) (A f g) (is_sys f g.site g.packet) u j.world (came_by f g w.log u) → takes_whole f.kind filter u ≡ false
@@ -171,7 +172,7 @@ module _ {F R : Type 0} (setting : Setting F R) (n : ℕ) (count_is : n ≡ leng
         begun : is_begun k w.log ≡ true
         begun =
             let of = new_head (λ r m. OfShare (S f g) j.world.shares r m) j.world.link j.shown_is.every.global.messages 1 0
-            (S_install k filter (instance_node from)) rest refl waits in
+            (ShareMsg.Install k filter (instance_node from)) rest refl waits in
             let s = real_share f (place g) g.site j.world.ops j.world.shares j.nodes.controller k of.share j.shown_is.controller.opens of.found in
             open_began f g n count_is w j b k (Share s.s) s.there
 

@@ -1,10 +1,10 @@
 -- In every run each move that began is answered by its verdict, which is on what its destination held, and on what came, when it took the first
 -- piece; a copy or a share that began is done, and each other command is refused.
-use Rattle.nf_net.proofs.Words.{◌≡◌, ℕ, ◌+◌, ◌≤◌, Bool, true, false, Some, None, List, [], ◌∷◌, ◌++◌, length, refl, sym, ap, ◌∙◌, subst, arith, nat_cmp}
-use Rattle.nf_net.proofs.Words.{Filter, Answer, Order, Piece, Msg, Note, Choice, Network, opening_on_links, opening_weight}
-use Rattle.nf_net.proofs.Words.{total, weigh, Each, Operation, opened_controller, unknown_in, InstanceState, Config, Node, is_begun, answers_of, before_command}
-use Rattle.nf_net.proofs.Words.{overlaps, IsCause, MayBegin, is_item, order_numbered, course_of, job_of, node_step, node_ready, first_instance}
-use Rattle.nf_net.proofs.Words.{first_nodes, is_refusal, receiver_of, count_at_start, all_each, Instance, Verdicts, Setting, start, IsCourse, world_of}
+use Rattle.nf_net.proofs.Words.{◌≡◌, ℕ, ◌+◌, ◌≤◌, Bool, true, false, Some, None, List, [], ◌∷◌, ◌++◌, length, refl, sym, ap, ◌∙◌, subst, arith, nat_cmp, Filter}
+use Rattle.nf_net.proofs.Words.{Answer, Order, Piece, Msg, Note, Choice, Network, opening_on_links, opening_weight, total, weigh, Each, Operation}
+use Rattle.nf_net.proofs.Words.{opened_controller, unknown_in, InstanceState, Config, Node, is_begun, answers_of, before_command, overlaps, IsCause, MayBegin}
+use Rattle.nf_net.proofs.Words.{is_item, order_numbered, course_of, job_of, node_step, node_ready, first_instance, first_nodes, is_refusal, receiver_of}
+use Rattle.nf_net.proofs.Words.{count_at_start, all_each, Instance, Verdicts, Setting, start, IsCourse, world_of}
 use Rattle.std.specs.FinMap as finite
 use Rattle.actor_net.proofs.RunLaws.{run_splits}
 use Rattle.net_world.specs.Verdicts.{IsVerdict}

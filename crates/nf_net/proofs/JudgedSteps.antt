@@ -2,8 +2,8 @@
 use Rattle.nf_net.proofs.Words.{◌≡◌, ◌≢◌, ℕ, suc, ◌+◌, ◌<◌, ◌≤◌, Bool, true, false, Some, List, [], ◌∷◌, ◌++◌, length, get_or, refl, sym, ap, ◌∙◌, subst, arith}
 use Rattle.nf_net.proofs.Words.{if◌then◌else◌, slice_index, slice_index_or, Semantics, Answer, Piece, Msg, Note, MoveState, Move, ControllerState}
 use Rattle.nf_net.proofs.Words.{InstanceState, Choice, Network, Stepped, run, world_next, queue_at, at, Takes, Outcome, taken_outcome, OnLinks, EachSent}
-use Rattle.nf_net.proofs.Words.{on_links_after, total, total_after, sent_weight, Each, Node, Controller, is_begun, answers_of, node_step}
-use Rattle.nf_net.proofs.Words.{answers_of-append, Given, Label, given, Instance, Setting, start}
+use Rattle.nf_net.proofs.Words.{on_links_after, total, total_after, sent_weight, Each, Node, Controller, is_begun, answers_of, node_step, answers_of-append}
+use Rattle.nf_net.proofs.Words.{Given, Label, given, Instance, Setting, start}
 use Rattle.std.specs.FinMap as finite
 use Rattle.nf_net.proofs.RunWords.{AreOther, none_answered, other_not_answered, other_not_begun, began_same, Said, Knows, sends_nothing}
 use Rattle.nf_net.proofs.JudgedTables.{used}

@@ -1,11 +1,11 @@
 -- What an instance's step leaves live: what was and isn't removed, and the units that it gains by what it notes.
 use Rattle.nf_net.proofs.Words.{◌≡◌, ℕ, Bool, true, false, cond, Option, Some, None, List, [], ◌∷◌, ◌++◌, map, append-nil, append_assoc, refl, sym, ap, ◌∙◌}
-use Rattle.nf_net.proofs.Words.{subst, if◌then◌else◌, ◌&&◌, ◌||◌, not, is_some, flat_map, or-false, or_right, or_left, Filter, Site, Chunk, newest}
-use Rattle.nf_net.proofs.Words.{kept_after, unit_at, Records, same_unit, is_among, either, after_packet, same_unit_equiv, Decide, Mark}
-use Rattle.nf_net.proofs.Words.{FullCell, tally_read, Answer, Piece, Msg, Note, units_in, InstanceState, to_controller, and_then, tell_step, tells_and_notes}
-use Rattle.nf_net.proofs.Words.{with_standby, with_records, keep_note, where_good, is_live, carry_step, tally_put, piece_refusal, instance_step, Each}
-use Rattle.nf_net.proofs.Words.{order_numbered, gained_by, is_first_of, is_shared_away, unit_numbered, removed_by, number, Given, chunks_good, Genuine}
-use Rattle.nf_net.proofs.Words.{AreGoodChunks, IsGoodPiece, given, Unit, flow_of, records_of, Setting}
+use Rattle.nf_net.proofs.Words.{subst, if◌then◌else◌, ◌&&◌, ◌||◌, not, is_some, flat_map, or-false, or_right, or_left, Filter, Site, Chunk, newest, kept_after}
+use Rattle.nf_net.proofs.Words.{unit_at, Records, same_unit, is_among, either, after_packet, same_unit_equiv, Decide, Mark, FullCell, tally_read, Answer, Piece}
+use Rattle.nf_net.proofs.Words.{Msg, Note, units_in, InstanceState, to_controller, and_then, tell_step, tells_and_notes, with_standby, with_records, keep_note}
+use Rattle.nf_net.proofs.Words.{where_good, is_live, carry_step, tally_put, piece_refusal, instance_step, Each, order_numbered, gained_by, is_first_of}
+use Rattle.nf_net.proofs.Words.{is_shared_away, unit_numbered, removed_by, number, Given, chunks_good, Genuine, AreGoodChunks, IsGoodPiece, given, Unit}
+use Rattle.nf_net.proofs.Words.{flow_of, records_of, Setting}
 use Rattle.std.specs.Prelude.{Ok, Err}
 use Rattle.std.specs.FinMap as finite
 use Rattle.record_table.specs.Table.{union_of}

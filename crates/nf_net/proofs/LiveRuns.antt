@@ -1,11 +1,11 @@
 -- At every point of a run the units that the history says are live at an instance are those with a live record there, each once.
 use Rattle.nf_net.proofs.Words.{◌≡◌, ◌≢◌, ℕ, zero, suc, ◌<◌, true, false, Option, Some, None, List, [], ◌∷◌, ◌++◌, length, refl, sym, ap, ◌∙◌, subst, arith}
-use Rattle.nf_net.proofs.Words.{if◌then◌else◌, ◌&&◌, ◌||◌, ◌==◌, not, is_some, slice_get, flat_map, nat_tests, Decides-eqb, slice_get-get_or, Chunk}
-use Rattle.nf_net.proofs.Words.{is_among, same_unit_equiv, Msg, Note, instance_node, InstanceState, instance_step, Choice, Network}
-use Rattle.nf_net.proofs.Words.{run, world_next, queue_at, at, run_more, Takes, Outcome, taken_outcome, Node, Switch, Controller, processed_of}
-use Rattle.nf_net.proofs.Words.{order_numbered, with_units, without_units, gained_by, is_first_of, is_shared_away, node_step}
-use Rattle.nf_net.proofs.Words.{unit_numbered, live_in, live_at, removed_by, live_number, Given, node_of, IsTaken, scene, Wants, node_leads, instance_quiet}
-use Rattle.nf_net.proofs.Words.{Runs, run_beside, given, all_fit, count_at_start, Unit, Order, Instance, split, ◌+◌, Setting, start, IsCourse, world_of}
+use Rattle.nf_net.proofs.Words.{if◌then◌else◌, ◌&&◌, ◌||◌, ◌==◌, not, is_some, slice_get, flat_map, nat_tests, Decides-eqb, slice_get-get_or, Chunk, is_among}
+use Rattle.nf_net.proofs.Words.{same_unit_equiv, Msg, Note, instance_node, InstanceState, instance_step, Choice, Network, run, world_next, queue_at, at}
+use Rattle.nf_net.proofs.Words.{run_more, Takes, Outcome, taken_outcome, Node, Switch, Controller, processed_of, order_numbered, with_units, without_units}
+use Rattle.nf_net.proofs.Words.{gained_by, is_first_of, is_shared_away, node_step, unit_numbered, live_in, live_at, removed_by, live_number, Given, node_of}
+use Rattle.nf_net.proofs.Words.{IsTaken, scene, Wants, node_leads, instance_quiet, Runs, run_beside, given, all_fit, count_at_start, Unit, Order, Instance}
+use Rattle.nf_net.proofs.Words.{split, ◌+◌, Setting, start, IsCourse, world_of}
 use Rattle.std.specs.Prelude.{drop}
 use Rattle.std.specs.FinMap as finite
 use Rattle.std.proofs.Math.Seq.{drop-append_seam}

@@ -3,11 +3,11 @@
 use Rattle.nf_net.proofs.Words.{◌≡◌, ℕ, ◌+◌, ◌<◌, Bool, true, false, Option, Some, None, List, [], ◌∷◌, length, refl, sym, ap, ◌∙◌, subst, arith, if◌then◌else◌}
 use Rattle.nf_net.proofs.Words.{◌&&◌, ◌||◌, ◌==◌, not, find, is_some, slice_get, slice_index, filter_map, list_any, option_map_or, nat_tests, Decides-eqb}
 use Rattle.nf_net.proofs.Words.{get_or_from_slice_get, slice_get_within, or_right, and_parts, Filter, takes, same_unit, Order, Msg, Note, instance_node, home}
-use Rattle.nf_net.proofs.Words.{Share, place_of, Network, Chunks, where_two, OfShare, new_head, label_of, found_each, unit_share, Any, New, Shared_on, S_sync}
-use Rattle.nf_net.proofs.Words.{same, OpenShare, WantShare, find_share, moves_of, Under, seeing, ElsewhereHome, head_none, shape, ItsShare, its_share, WhereAll}
-use Rattle.nf_net.proofs.Words.{Apart_from_shares, Under_share, Node, Switch, Controller, is_begun, order_numbered, before_begun, is_first_of, is_shared_away}
-use Rattle.nf_net.proofs.Words.{has_begun, begins_in, is_at, is_home, owner, shared_among, live_in, live_at, unit_fits, is_whole, takes_whole, is_sys, Both}
-use Rattle.nf_net.proofs.Words.{RealShare, real_share, Given, place, S, A, Joined, came_by, AllApart, given, Unit, Instance, split, Setting}
+use Rattle.nf_net.proofs.Words.{Share, place_of, Network, Chunks, where_two, OfShare, new_head, label_of, found_each, unit_share, Any, New, Shared_on, ShareMsg}
+use Rattle.nf_net.proofs.Words.{same, OpenShare, ShareAsked, find_share, moves_of, Under, seeing, ElsewhereHome, head_none, shape, ItsShare, its_share}
+use Rattle.nf_net.proofs.Words.{WhereAll, Apart_from_shares, Under_share, Node, Switch, Controller, is_begun, order_numbered, before_begun, is_first_of}
+use Rattle.nf_net.proofs.Words.{is_shared_away, has_begun, begins_in, is_at, is_home, owner, shared_among, live_in, live_at, unit_fits, is_whole, takes_whole}
+use Rattle.nf_net.proofs.Words.{is_sys, Both, RealShare, real_share, Given, place, S, A, Joined, came_by, AllApart, given, Unit, Instance, split, Setting}
 use Rattle.std.specs.FinMap as finite
 use Rattle.std.proofs.lemmas.Bool.{not-true}
 use Rattle.proof_outlines.proofs.whole.SwitchAll.{same_node}
@@ -175,7 +175,7 @@ module _ {F R : Type 0} (setting : Setting F R) (n : ℕ) (count_is : n ≡ leng
             ∙ ap (λ x. finite.get x.live u) (j.shown_is.instances (instance_node y) (omega arith) few).outline_is ∙ away_none y away
 
     -- Under a share the log has it so at every instance but home
-    module _ (told : HomesOwn setting n count_is w j) (x : WantShare) (before since : List ℕ)
+    module _ (told : HomesOwn setting n count_is w j) (x : ShareAsked) (before since : List ℕ)
         (k : Under (S f g) (A f g) (seeing (S f g) (A f g) u x) j.world before since) where
       abbrev here : OpenShare
       here = its_share (S f g) (A f g) (is_sys f g.site g.packet) u j.world x before since k
@@ -233,8 +233,9 @@ module _ {F R : Type 0} (setting : Setting F R) (n : ℕ) (count_is : n ≡ leng
 
   -- records of a share that come to an instance say whether it is the first member
   pub first_synced : (p y : ℕ) (op : ℕ) (at_home : Bool) (cs : Chunks R) (rest : List (Any R)) → (p == 0) && (instance_node y == 0) ≡ false
-      → j.world.link p (instance_node y) ≡ New (S_sync op at_home cs) ∷ rest → is_first_of c items (order_numbered items op) y ≡ at_home
+      → j.world.link p (instance_node y) ≡ New (ShareMsg.Sync op at_home cs) ∷ rest → is_first_of c items (order_numbered items op) y ≡ at_home
   first_synced p y op at_home cs rest off waits =
-      let of = new_head (λ r m. OfShare (S f g) j.world.shares r m) j.world.link j.shown_is.every.global.messages p (instance_node y) (S_sync op at_home cs)
+      let of = new_head (λ r m. OfShare (S f g) j.world.shares r m) j.world.link j.shown_is.every.global.messages p (instance_node y)
+          (ShareMsg.Sync op at_home cs)
       rest off waits in
       first_is_home op of.share of.found y ∙ sym (same_is at_home (instance_node y == of.share.home) of.says.1)

@@ -1,10 +1,10 @@
 -- In a step of a run an instance leaves live what the history says: what was and isn't removed, and what it gains by what it notes.
 use Rattle.nf_net.proofs.Words.{◌≡◌, ℕ, suc, ◌+◌, ◌<◌, Bool, true, false, List, [], ◌∷◌, ◌++◌, length, refl, ap, ◌∙◌, arith, ◌&&◌, ◌||◌, ◌==◌, not}
-use Rattle.nf_net.proofs.Words.{option_map_or, list_any, nat_tests, Chunk, same_unit_equiv, FullCell, Msg, Note, instance_node}
-use Rattle.nf_net.proofs.Words.{InstanceState, instance_step, Network, queue_at, Each, New, Shared_on, S_sync, Config, Node, order_numbered}
-use Rattle.nf_net.proofs.Words.{before_begun, is_first_of, is_shared_away, has_begun, installs_in, begins_in, first_owner, is_home, owner_after, shared_among}
-use Rattle.nf_net.proofs.Words.{unit_numbered, held_genuine, number, entries, Given, Rows, by_message, Genuine, IsInstanceAt, IsTaken, Joined, Scene, AllApart}
-use Rattle.nf_net.proofs.Words.{installed_quiet, IsQuiet, given, Unit, Mark, Setting}
+use Rattle.nf_net.proofs.Words.{option_map_or, list_any, nat_tests, Chunk, same_unit_equiv, FullCell, Msg, Note, instance_node, InstanceState, instance_step}
+use Rattle.nf_net.proofs.Words.{Network, queue_at, Each, New, Shared_on, ShareMsg, Config, Node, order_numbered, before_begun, is_first_of, is_shared_away}
+use Rattle.nf_net.proofs.Words.{has_begun, installs_in, begins_in, first_owner, is_home, owner_after, shared_among, unit_numbered, held_genuine, number}
+use Rattle.nf_net.proofs.Words.{entries, Given, Rows, by_message, Genuine, IsInstanceAt, IsTaken, Joined, Scene, AllApart, installed_quiet, IsQuiet, given}
+use Rattle.nf_net.proofs.Words.{Unit, Mark, Setting}
 use Rattle.actor_net.proofs.EnabledChoices.{at as at_node}
 use Rattle.nf_net.proofs.RunWords.{HomesOwn, Busy, units_fit}
 use Rattle.proof_outlines.proofs.joined.OwnerLemmas.{begun_quiet}
@@ -105,7 +105,7 @@ module _ {F R : Type 0} (setting : Setting F R) (n : ℕ) (count_is : n ≡ leng
     put_all = λ op chunk t copied free. put_all_lives setting y w.log i site op chunk;
     sync = λ home op chunks good t copied free. sync_lives setting y w.log i site home op chunks good
         (first_synced setting n count_is w j apart b p y op home (entries f chunks) t.rest no_input
-        (ap (j.world.link p) node_is ∙ t.head not_input (New (S_sync op home (entries f chunks))) refl));
+        (ap (j.world.link p) node_is ∙ t.head not_input (New (ShareMsg.Sync op home (entries f chunks))) refl));
   }
 
   pub step_lives : (m : Msg) → IsTakenHere m → OfCopy m → Free setting y w.log i site (instance_step f i m)

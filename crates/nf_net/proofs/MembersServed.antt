@@ -1,10 +1,9 @@
 -- Where one packet of a unit that a share has is processed: at its member, if it came while the unit's packets were diverted, and else at home.
-use Rattle.nf_net.proofs.Words.{◌≡◌, ◌≢◌, ℕ, ◌+◌, ◌≤◌, Bool, true, false, cond, List, [], ◌∷◌, ◌++◌, map, ◌⊎◌, inl, inr, refl, sym, ap, ◌∙◌}
-use Rattle.nf_net.proofs.Words.{subst, arith, if◌then◌else◌, ◌&&◌, ◌==◌, nat_tests, Decides-eqb, IsOrderedAs, same_of, Ran, UnitShare, Stage, served}
-use Rattle.nf_net.proofs.Words.{shape, Sys, IsSys, none_mine, GlobalAll, NoShare, head_none, unit_share}
-use Rattle.nf_net.proofs.Words.{Under, seeing, Any, ShareMsg, olds, Sharing, IsSharing, OpenShare, WantShare}
-use Rattle.nf_net.proofs.Words.{member_step, WholeWorld, moves_of, ran_of, SeeingShare, Came, WhereAll, Apart_from_shares, Under_share, ItsShare, its_share}
-use Rattle.nf_net.proofs.Words.{ran_by, MayRun, processed_where, same_unit, Stands, In_first, In_second, stands, Unit, split}
+use Rattle.nf_net.proofs.Words.{◌≡◌, ◌≢◌, ℕ, ◌+◌, ◌≤◌, Bool, true, false, cond, List, [], ◌∷◌, ◌++◌, map, ◌⊎◌, inl, inr, refl, sym, ap, ◌∙◌, subst, arith}
+use Rattle.nf_net.proofs.Words.{if◌then◌else◌, ◌&&◌, ◌==◌, nat_tests, Decides-eqb, IsOrderedAs, same_of, Ran, UnitShare, Stage, served, shape, Sys, IsSys}
+use Rattle.nf_net.proofs.Words.{none_mine, GlobalAll, NoShare, head_none, unit_share, Under, seeing, Any, ShareMsg, olds, Sharing, IsSharing, OpenShare}
+use Rattle.nf_net.proofs.Words.{ShareAsked, member_step, WholeWorld, moves_of, ran_of, SeeingShare, Came, WhereAll, Apart_from_shares, Under_share, ItsShare}
+use Rattle.nf_net.proofs.Words.{its_share, ran_by, MayRun, processed_where, same_unit, Stands, In_first, In_second, stands, Unit, split}
 use Rattle.proof_machines.proofs.unit.Stages.{times}
 use Rattle.proof_machines.proofs.unit.Loose.{times-append}
 use Rattle.proof_machines.proofs.share.Share.{Item, Item.Carry}
@@ -14,7 +13,7 @@ use Rattle.proof_machines.proofs.share.Places.{At_places}
 use Rattle.proof_machines.proofs.net.Net.{at_node}
 use Rattle.proof_machines.proofs.net.UnderInst.{did_at}
 use Rattle.proof_machines.proofs.net.UnderReadings.{all_done, first_item}
-use Rattle.proof_machines.proofs.net.Shares.{Any.Old, Any.New, ShareMsg.Shared_on, ShareMsg.S_sync}
+use Rattle.proof_machines.proofs.net.Shares.{Any.Old, Any.New, ShareMsg.Shared_on}
 use Rattle.proof_machines.proofs.whole.PlacesAll.{Processes, As_moves, At_member, processes_all}
 
 -- A packet among some, with its node.
@@ -74,20 +73,20 @@ module _ {R : Type 0} (S : Sys R) (A : Sharing S) (laws : IsSys S) (u : Unit) wh
       pub its : ItsShare S A laws u w share
       pub at : y ≡ A.member share.members p
 
-    done_under : (x : WantShare) (before : List ℕ) (b : Bool) → Under S A (seeing S A u x) w before k.diverted → IsOrderedAs b (before ++ k.diverted) k.all
+    done_under : (x : ShareAsked) (before : List ℕ) (b : Bool) → Under S A (seeing S A u x) w before k.diverted → IsOrderedAs b (before ++ k.diverted) k.all
         → DoneAt
     done_under x before b h o = record {
       share = its_share S A laws u w x before k.diverted h;
       its = record { found = h.holds.share; takes = h.covered; home_in = h.is.home_in };
-      at = by_place (stands parted.before (served fr parted.since) front (p, y) back
+      at = by_place (stands parted.before (served own_share parted.since) front (p, y) back
           (sym parted.done ∙ sym (all_done S A (seeing S A u x) w before k.diverted h) ∙ there));
     }
       where
-        fr : UnitShare R
-        fr = unit_share S A (seeing S A u x)
+        own_share : UnitShare R
+        own_share = unit_share S A (seeing S A u x)
 
-        parted : Parts fr h.stage
-        parted = parts fr h.stage
+        parted : Parts own_share h.stage
+        parted = parts own_share h.stage
 
         -- it isn't one of those that came before
         not_before : times p (packets parted.before) ≡ 0
@@ -98,11 +97,11 @@ module _ {R : Type 0} (S : Sys R) (A : Sharing S) (laws : IsSys S) (u : Unit) wh
             ∙ times-append p (packets parted.before) parted.early_waits in
             omega (arith, all, two, first, once, came)
 
-        by_place : Stands parted.before (served fr parted.since) (record { before = front; item = (p, y); after = back }) → y ≡ A.member x.members p
+        by_place : Stands parted.before (served own_share parted.since) (record { before = front; item = (p, y); after = back }) → y ≡ A.member x.members p
         by_place (In_first cs here) =
             let some = some_times front cs p y in
             let none = not_before in let same = ap (λ ds. times p (packets ds)) here in absurd (omega (arith, some, none, same))
-        by_place (In_second cs from at) = served_at fr parted.since cs back p y at
+        by_place (In_second cs from at) = served_at own_share parted.since cs back p y at
 
     pub done_at : WhereAll S A laws u w k → DoneAt
     done_at (Apart_from_shares h none) = let zero = ap (times p) none in absurd (omega (arith, came, zero))
@@ -112,12 +111,12 @@ module _ {R : Type 0} (S : Sys R) (A : Sharing S) (laws : IsSys S) (u : Unit) wh
   pub unseen_ran : (es : List OpenShare) (live standby : S.B.T) (m : ShareMsg R) → NoShare S u es m → none_mine S u (member_step S A live standby m).ran ≡ []
   unseen_ran es live standby (Shared_on n true p) off = rw off refl
   unseen_ran es live standby (Shared_on n false p) off = rw off refl
-  unseen_ran es live standby (S_sync n true cs) off = refl
-  unseen_ran es live standby (S_sync n false cs) off = refl
+  unseen_ran es live standby (ShareMsg.Sync n true cs) off = refl
+  unseen_ran es live standby (ShareMsg.Sync n false cs) off = refl
   unseen_ran es live standby m off = refl
 
   -- under a share that doesn't divert yet it is home that processes
-  module _ (ok : IsSharing S A) (w : WholeWorld S A) (x : WantShare) (before since : List ℕ) (h : Under S A (seeing S A u x) w before since)
+  module _ (ok : IsSharing S A) (w : WholeWorld S A) (x : ShareAsked) (before since : List ℕ) (h : Under S A (seeing S A u x) w before since)
       (g : GlobalAll S A w) (y p : ℕ) (m : Any R) (rest : List (Any R)) (y0 : (y == 0) ≡ false) (y1 : (y == 1) ≡ false)
       (waits : w.link p y ≡ m ∷ rest) (some : ran_of S A u (at_node y (did_at S A laws (seeing S A u x) w y m).ran) ≢ [])
       (off : (shape (unit_share S A (seeing S A u x)) h.stage).diverts ≡ false) where
@@ -156,7 +155,7 @@ module _ {R : Type 0} (S : Sys R) (A : Sharing S) (laws : IsSys S) (u : Unit) wh
     some_ran z (Old o) same none = none_left its_ran.0 its_ran.1 (sym its_ran.2 ∙ ap (λ v. ran_of S A u (at_node y (ran_by S A laws w y v))) same ∙ none)
     some_ran z (New o) same none = none_left its_ran.0 its_ran.1 (sym its_ran.2 ∙ ap (λ v. ran_of S A u (at_node y (ran_by S A laws w y v))) same ∙ none)
 
-    under_one : (x : WantShare) (before since : List ℕ) → Under S A (seeing S A u x) w before since → Processes S A laws w u y (ran_by S A laws w y m)
+    under_one : (x : ShareAsked) (before since : List ℕ) → Under S A (seeing S A u x) w before since → Processes S A laws w u y (ran_by S A laws w y m)
         → ProcessesOne w y q
     under_one x before since h (As_moves may live) = By_move may
     under_one x before since h (At_member e its inside places own) = by_diverts (shape (unit_share S A (seeing S A u x)) h.stage).diverts refl

@@ -2,9 +2,9 @@
 -- say which of the records have a time.
 use Rattle.nf_net.proofs.Words.{◌≡◌, ℕ, ◌<◌, ◌≤◌, Bool, true, false, cond, Option, Some, None, List, ◌∷◌, length, refl, sym, ap, ◌∙◌, subst, arith, ◌&&◌, ◌==◌}
 use Rattle.nf_net.proofs.Words.{is_some, filter_map, nat_tests, Filter, takes, FunctionLaws, Semantics, Records, taken_by, one_unit, Msg, Note, Network}
-use Rattle.nf_net.proofs.Words.{queue_at, at, Each, M_stream, Mv, Sys, IsSys, NothingOf, Where, Any, olds, Sharing, WholeWorld, moves_of, Came, WhereAll}
-use Rattle.nf_net.proofs.Words.{Apart_from_shares, Under_share, Node, processed_of, live_at, is_whole, takes_same, is_sys, Given, S, A, shown}
-use Rattle.nf_net.proofs.Words.{came_by, Joined, done_same, given, Unit, Setting}
+use Rattle.nf_net.proofs.Words.{queue_at, at, Each, MoveMsg, Of_move, Sys, IsSys, NothingOf, Where, Any, olds, Sharing, WholeWorld, moves_of, Came, WhereAll}
+use Rattle.nf_net.proofs.Words.{Apart_from_shares, Under_share, Node, processed_of, live_at, is_whole, takes_same, is_sys, Given, S, A, shown, came_by, Joined}
+use Rattle.nf_net.proofs.Words.{done_same, given, Unit, Setting}
 use Rattle.std.specs.FinMap as finite
 use Rattle.record_table.specs.Chunks.{chunks_of}
 use Rattle.record_table.proofs.RecordLookUps.{same_records}
@@ -17,7 +17,8 @@ use Rattle.nf_net.proofs.StreamedUnits.{GivesState, selected_give}
 module _ {R : Type 0} (S : Sys R) (laws : IsSys S) (u : Unit) where
   -- no share has a unit that is asked for
   stream_apart : (A : Sharing S) (w : WholeWorld S A) (k : Came) → WhereAll S A laws u w k → (i y n : ℕ) (g : Filter) (rest : List (Any R))
-      → (i == 0) && (y == 0) ≡ false → w.link i y ≡ Old (Mv g (M_stream n)) ∷ rest → S.takes g u ≡ true → Where S laws u (moves_of S A w) k.all k.bared
+      → (i == 0) && (y == 0) ≡ false → w.link i y ≡ Old (Of_move g (MoveMsg.Stream n)) ∷ rest → S.takes g u ≡ true
+      → Where S laws u (moves_of S A w) k.all k.bared
   stream_apart A w k (Apart_from_shares h none) i y n g rest off waits on = h.is
   stream_apart A w k (Under_share x before b h o f) i y n g rest off waits on =
       let nothing = (subst (λ ms. Each (NothingOf S u i) (olds ms)) waits (h.labels i y off)).0 in
@@ -36,7 +37,7 @@ module _ {F R : Type 0} (setting : Setting F R) (n : ℕ) (w : Network (Node F R
     off : (p == 0) && (k == 0) ≡ false
     off = grind (arith, nat_tests, two)
 
-    shown_so : j.world.link p k ≡ Old (Mv filter (M_stream op)) ∷ filter_map (shown f g) rest
+    shown_so : j.world.link p k ≡ Old (Of_move filter (MoveMsg.Stream op)) ∷ filter_map (shown f g) rest
     shown_so = j.links p k sends few off ∙ ap (filter_map (shown f g)) waits
 
     -- a live record of a unit that it takes is that of all the unit's packets

@@ -1,7 +1,7 @@
 -- The unit of the packet with any number is one that packets may have; and what an instance notes as processed is among what ran.
 use Rattle.nf_net.proofs.Words.{◌≡◌, ℕ, Bool, true, false, Option, Some, None, List, [], ◌∷◌, ◌++◌, refl, ap, if◌then◌else◌, ◌&&◌, ◌==◌, not, find, unwrap_or}
-use Rattle.nf_net.proofs.Words.{cons_option, filter_map, Packet, Site, Flow, Output, Note, Each, packet_numbered}
-use Rattle.nf_net.proofs.Words.{unit_numbered, flow_fits, unit_fits, all_each, ran_in, unit_is_fit, flow_of, split, Setting}
+use Rattle.nf_net.proofs.Words.{cons_option, filter_map, Packet, Site, Flow, Output, Note, Each, packet_numbered, unit_numbered, flow_fits, unit_fits, all_each}
+use Rattle.nf_net.proofs.Words.{ran_in, unit_is_fit, flow_of, split, Setting}
 use Rattle.flow_filter.specs.declared.flow.Direction.{Direction}
 use Rattle.flow_filter.specs.declared.flow.Direction.TheVariants.{Out, In}
 use Rattle.flow_filter.specs.Flow.{is_inside, outward, inward}

@@ -1,7 +1,7 @@
 -- At most as many packets are processed as came, where each is processed at most as often as it came; and as many, where it is as often.
 use Rattle.nf_net.proofs.Words.{◌≡◌, ℕ, suc, ◌+◌, ◌≤◌, Bool, true, List, [], ◌∷◌, map, length, refl, sym, ap, ◌∙◌, arith, if◌then◌else◌, ◌==◌, nat_tests}
-use Rattle.nf_net.proofs.Words.{Decides-eqb, length-map, Semantics, unit_at, same_unit_equiv, Msg, Note, Network, Config, Node, packet_numbered}
-use Rattle.nf_net.proofs.Words.{arrivals_in, dones_in, done_where, is_of, arrived_of, processed_of, times_filter, given, Joined, Unit, split, Setting}
+use Rattle.nf_net.proofs.Words.{Decides-eqb, length-map, Semantics, unit_at, same_unit_equiv, Msg, Note, Network, Config, Node, packet_numbered, arrivals_in}
+use Rattle.nf_net.proofs.Words.{dones_in, done_where, is_of, arrived_of, processed_of, times_filter, given, Joined, Unit, split, Setting}
 use Rattle.net_world.specs.Log.{Done}
 use Rattle.net_world.specs.Fold.{times}
 use Rattle.net_world.proofs.NumberCounts.{done_numbers}

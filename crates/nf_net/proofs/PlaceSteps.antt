@@ -1,11 +1,11 @@
 -- In a step of a run an instance processes packets at places of their units.
 use Rattle.nf_net.proofs.Words.{◌≡◌, ℕ, suc, ◌+◌, ◌⊎◌, inl, inr, true, Option, Some, None, List, [], ◌∷◌, ◌++◌, length, refl, sym, ap, ◌∙◌, subst, arith}
-use Rattle.nf_net.proofs.Words.{filter_map, nat_tests, Decides-eqb, and_parts, takes, Output, same_unit_equiv, Msg, Note}
-use Rattle.nf_net.proofs.Words.{instance_node, FullCell, stored_of, place_of, Operation, Move, Copy, Share, InstanceState, instance_step, Network, queue_at}
-use Rattle.nf_net.proofs.Words.{Each, Open, find_op, Any, New, OpenShare, moves_of, MayRun, ran_by, ItsShare, Node, job_of, is_at, owner}
-use Rattle.nf_net.proofs.Words.{members, unit_numbered, IsMoving, IsPlace, Owns, Is_destination, Is_member, is_whole, unit_fits, takes_whole, ran_in, is_sys}
-use Rattle.nf_net.proofs.Words.{outline_instance, Sees, but_shares, is_sharing, Given, place, S, A, Scene, IsTaken, IsInstanceAt, Joined, came_by, AllApart}
-use Rattle.nf_net.proofs.Words.{each_there, IsQuiet, instance_quiet, RanAs, Seen, Unseen, ran_as, ran_any, given, all_fit, Unit, Setting}
+use Rattle.nf_net.proofs.Words.{filter_map, nat_tests, Decides-eqb, and_parts, takes, Output, same_unit_equiv, Msg, Note, instance_node, FullCell, stored_of}
+use Rattle.nf_net.proofs.Words.{place_of, Operation, Move, Copy, Share, InstanceState, instance_step, Network, queue_at, Each, Open, find_op, Any, New}
+use Rattle.nf_net.proofs.Words.{OpenShare, moves_of, MayRun, ran_by, ItsShare, Node, job_of, is_at, owner, members, unit_numbered, IsMoving, IsPlace, Owns}
+use Rattle.nf_net.proofs.Words.{Is_destination, Is_member, is_whole, unit_fits, takes_whole, ran_in, is_sys, outline_instance, Sees, but_shares, is_sharing}
+use Rattle.nf_net.proofs.Words.{Given, place, S, A, Scene, IsTaken, IsInstanceAt, Joined, came_by, AllApart, each_there, IsQuiet, instance_quiet, RanAs, Seen}
+use Rattle.nf_net.proofs.Words.{Unseen, ran_as, ran_any, given, all_fit, Unit, Setting}
 use Rattle.std.specs.FinMap as finite
 use Rattle.actor_net.proofs.EnabledChoices.{at as at_node}
 use Rattle.proof_machines.proofs.net.Shares.{Old}

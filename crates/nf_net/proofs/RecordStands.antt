@@ -3,7 +3,7 @@
 use Rattle.nf_net.proofs.Words.{◌≡◌, ◌≢◌, ℕ, ◌<◌, ◌≤◌, true, false, Option, Some, None, List, [], ◌∷◌, ◌++◌, map, refl, sym, ap, ◌∙◌, subst, arith}
 use Rattle.nf_net.proofs.Words.{if◌then◌else◌, ◌==◌, ◌-◌, ◌||◌, nat_lt, slice_get, option_to_list, flat_map, ltb-false, or_right, nat_tests, Decides-eqb}
 use Rattle.nf_net.proofs.Words.{Decides-ltb, slice_get_past, controller_node, instance_node, is_among, Choice, on_link, State, idle, nil_left, firsts, Kept}
-use Rattle.nf_net.proofs.Words.{third_silent, seat_shape, seat_path, Seeing, node_at, side_place, seat_parts, WantShare, WhereAll, Apart_from_shares}
+use Rattle.nf_net.proofs.Words.{third_silent, seat_shape, seat_path, Seeing, node_at, side_place, seat_parts, ShareAsked, WhereAll, Apart_from_shares}
 use Rattle.nf_net.proofs.Words.{Under_share, job_of, arrivals_in, IsFront, processed_of, owner, live_in, live_at, given_in, removed_by, AllApart, is_sys}
 use Rattle.nf_net.proofs.Words.{run_beside, done_same, given, Given, S, A, came_by, Unit, split, Setting, IsCourse, world_of}
 use Rattle.std.specs.FinMap as finite
@@ -228,7 +228,7 @@ module _ {F R : Type 0} (here : Reached F R) (in_turn : IsFront (arrivals_in her
   folded ps = fold_is setting None ps
 
   -- Under a share.
-  module _ (x : WantShare) (before since : List ℕ) (k : IsUnder here u x before since) where
+  module _ (x : ShareAsked) (before since : List ℕ) (k : IsUnder here u x before since) where
     abbrev home : ℕ
     home = owner c items u w.log
 

@@ -1,7 +1,7 @@
 -- What a step of the switch in a run does to its rules: nothing, or it takes a change that a move or a share has sent, which it notes.
 use Rattle.nf_net.proofs.Words.{◌≡◌, ℕ, true, false, Some, List, [], ◌∷◌, refl, sym, ap, ◌∙◌, subst, ◌&&◌, ◌==◌, nat_lt, Filter, Semantics, Msg, Note}
-use Rattle.nf_net.proofs.Words.{instance_node, Target, SwitchState, switch_step, on_install, Any, New, S_install, installs_in, is_whole, Given, Scene, AreShown}
-use Rattle.nf_net.proofs.Words.{IsTaken, Label, shown, is_target}
+use Rattle.nf_net.proofs.Words.{instance_node, Target, SwitchState, switch_step, on_install, Any, New, ShareMsg, installs_in, is_whole, Given, Scene, AreShown}
+use Rattle.nf_net.proofs.Words.{IsTaken, Label, shown, is_target, MoveMsg}
 use Rattle.proof_machines.proofs.unit.Real as real
 use Rattle.proof_machines.proofs.net.Net as net
 use Rattle.proof_machines.proofs.net.Shares.{Old}
@@ -23,9 +23,9 @@ module _ {F R : Type 0} (f : Semantics R) (g : Given) (n : ℕ) (x : Scene F f g
     No_rule : installs_in notes ≡ [] → Changed
     Moves_on : (k : ℕ) (filter : Filter) (from dst : ℕ) (rest : List (Any R)) → notes ≡ Note.Installed k ∷ []
         → IsInstall g k (record { filter = filter; from = from; to = Target.Instance dst }) → is_whole f.kind filter ≡ true
-        → x.world.link 1 0 ≡ Old (net.Mv filter (real.M_install k (instance_node from) (instance_node dst))) ∷ rest → Changed
+        → x.world.link 1 0 ≡ Old (net.Of_move filter (MoveMsg.Install k (instance_node from) (instance_node dst))) ∷ rest → Changed
     Diverts : (k : ℕ) (filter : Filter) (from : ℕ) (rest : List (Any R)) → notes ≡ Note.Installed k ∷ [] → IsDivert g k filter from
-        → is_whole f.kind filter ≡ true → x.world.link 1 0 ≡ New (S_install k filter (instance_node from)) ∷ rest → Changed
+        → is_whole f.kind filter ≡ true → x.world.link 1 0 ≡ New (ShareMsg.Install k filter (instance_node from)) ∷ rest → Changed
 
   module _ (k : ℕ) (filter : Filter) (from : ℕ) (to : Target) (e : m ≡ Msg.Install k filter from to) where
     label : Label f g p 0 (Msg.Install k filter from to)
@@ -43,10 +43,10 @@ module _ {F R : Type 0} (f : Semantics R) (g : Given) (n : ℕ) (x : Scene F f g
   by_target : (k : ℕ) (filter : Filter) (from : ℕ) (to : Target) → m ≡ Msg.Install k filter from to → Changed
   by_target k filter from Target.Controller e = Diverts k filter from it.rest (noted k filter from Target.Controller e)
       (label k filter from Target.Controller e).4 (label k filter from Target.Controller e).3
-      (head k filter from Target.Controller e (New (S_install k filter (instance_node from))) (ap (shown f g) e))
+      (head k filter from Target.Controller e (New (ShareMsg.Install k filter (instance_node from))) (ap (shown f g) e))
   by_target k filter from (Target.Instance dst) e = Moves_on k filter from dst it.rest (noted k filter from (Target.Instance dst) e)
       (label k filter from (Target.Instance dst) e).4 (label k filter from (Target.Instance dst) e).3
-      (head k filter from (Target.Instance dst) e (Old (net.Mv filter (real.M_install k (instance_node from) (instance_node dst)))) (ap (shown f g) e))
+      (head k filter from (Target.Instance dst) e (Old (net.Of_move filter (MoveMsg.Install k (instance_node from) (instance_node dst)))) (ap (shown f g) e))
 
   by_changes : Changes x.nodes.switch m → Changed
   by_changes (Same none) = No_rule none

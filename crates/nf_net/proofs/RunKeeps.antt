@@ -1,8 +1,8 @@
 -- What holds of a network at the start, and goes on with each step of a run, holds of every run.
-use Rattle.nf_net.proofs.Words.{◌≡◌, ℕ, ◌+◌, ◌&&◌, ◌==◌, true, List, [], ◌∷◌, ◌++◌, length, refl, sym, subst, Msg, Note, Choice, Network, IsWorld}
-use Rattle.nf_net.proofs.Words.{run_world, world_next, queue_at, at, less_first, Taking, Takes, taken_outcome, EachSent, run_induction, Node, node_step}
-use Rattle.nf_net.proofs.Words.{node_ready, Given, Label, start_world, given, count_at_start, Runs, run_beside, all_fit, node_of, IsTaken, scene, Wants}
-use Rattle.nf_net.proofs.Words.{node_leads, its_takes, its_taken, its_labels, its_input, ready_at, Setting, start, IsCourse, world_of}
+use Rattle.nf_net.proofs.Words.{◌≡◌, ℕ, ◌+◌, ◌&&◌, ◌==◌, true, List, [], ◌∷◌, ◌++◌, length, refl, sym, subst, Msg, Note, Choice, Network, IsWorld, run_world}
+use Rattle.nf_net.proofs.Words.{world_next, queue_at, at, less_first, Taking, Takes, taken_outcome, EachSent, run_induction, Node, node_step, node_ready, Given}
+use Rattle.nf_net.proofs.Words.{Label, start_world, given, count_at_start, Runs, run_beside, all_fit, node_of, IsTaken, scene, Wants, node_leads, its_takes}
+use Rattle.nf_net.proofs.Words.{its_taken, its_labels, its_input, ready_at, Setting, start, IsCourse, world_of}
 use Rattle.actor_net.specs.Network.{is_input}
 
 module _ {F R : Type 0} (setting : Setting F R) where

@@ -1,10 +1,10 @@
 -- Of every run: a packet after a settle is processed where the rules of the switch send it, if no command after the settle has begun.
 use Rattle.nf_net.proofs.Words.{◌≡◌, ℕ, Bool, true, false, Option, Some, None, List, ◌∷◌, ◌++◌, append_assoc, refl, sym, ap, ◌∙◌, subst, arith, ◌&&◌, ◌==◌, not}
-use Rattle.nf_net.proofs.Words.{option_map_or, or_left, Output, Command, Msg, Note, Choice, Network, IsRun, run, Each}
-use Rattle.nf_net.proofs.Words.{each-append, each_map, Node, is_begun, has_answered, is_busy, times_installed, packet_numbered, commands}
-use Rattle.nf_net.proofs.Words.{order_numbered, job_of, installs_in, node_step, node_ready, first_owner, owner_after, members_after, is_home, owner}
-use Rattle.nf_net.proofs.Words.{members, member_for, unit_numbered, IsMoving, IsPlace, Owns, Is_destination, Is_member, ArePlaces, has_packet, has_begun-append}
-use Rattle.nf_net.proofs.Words.{installed-append, all_each, Given, Stands, In_first, In_second, stands, given, Unit, Order, Setting, start}
+use Rattle.nf_net.proofs.Words.{option_map_or, or_left, Output, Command, Msg, Note, Choice, Network, IsRun, run, Each, each-append, each_map, Node, is_begun}
+use Rattle.nf_net.proofs.Words.{has_answered, is_busy, times_installed, packet_numbered, commands, order_numbered, job_of, installs_in, node_step, node_ready}
+use Rattle.nf_net.proofs.Words.{first_owner, owner_after, members_after, is_home, owner, members, member_for, unit_numbered, IsMoving, IsPlace, Owns}
+use Rattle.nf_net.proofs.Words.{Is_destination, Is_member, ArePlaces, has_packet, has_begun-append, installed-append, all_each, Given, Stands, In_first}
+use Rattle.nf_net.proofs.Words.{In_second, stands, given, Unit, Order, Setting, start}
 use Rattle.net_world.specs.Places.{goes_to}
 use Rattle.net_world.specs.Settles.{IsAfterSettle, NoneBegan, Settles}
 use Rattle.nf_net.proofs.RunWords.{run_answers, units_fit}

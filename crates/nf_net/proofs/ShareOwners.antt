@@ -1,12 +1,12 @@
 -- In every run, who owns a unit when a share that takes it begins owns it for good: no move that takes the unit is under way then, and none begins.
 use Rattle.nf_net.proofs.Words.{◌≡◌, ℕ, zero, suc, ◌+◌, Bool, true, false, Some, List, [], ◌∷◌, ◌++◌, length, refl, sym, ap, ◌∙◌, subst, append-nil, ◌||◌, ◌==◌}
-use Rattle.nf_net.proofs.Words.{list_any, option_map_or, Filter, Semantics, takes, Msg, Note, instance_node, switch_step, controller_step}
-use Rattle.nf_net.proofs.Words.{Choice, Network, world_next, Each, each_found, OpLabel, NothingOf, found_each, Any, olds, moves_of, Where, seeing}
-use Rattle.nf_net.proofs.Words.{no_change, WhereAll, Apart_from_shares, Under_share, Config, Node, is_begun, order_numbered, before_begun, begin_in}
-use Rattle.nf_net.proofs.Words.{installs_in, node_step, first_owner, owner_after_order, owner_after, owner, has_begun-append, installed-append}
-use Rattle.nf_net.proofs.Words.{any_picked, before_kept, before_new, unit_fits, is_whole, takes_whole, takes_same, is_sys, Both, both, Given, place, owner_next}
-use Rattle.nf_net.proofs.Words.{S, A, Joined, came_by, Scene, IsTaken, node_of, scene, Wants, node_leads, AllApart, installed_quiet, installed_none}
-use Rattle.nf_net.proofs.Words.{instance_quiet, controller_uninstalled, Runs, given, all_fit, Unit, Order, split, Setting, IsCourse, world_of}
+use Rattle.nf_net.proofs.Words.{list_any, option_map_or, Filter, Semantics, takes, Msg, Note, instance_node, switch_step, controller_step, Choice, Network}
+use Rattle.nf_net.proofs.Words.{world_next, Each, each_found, OpLabel, NothingOf, found_each, Any, olds, moves_of, Where, seeing, no_change, WhereAll}
+use Rattle.nf_net.proofs.Words.{Apart_from_shares, Under_share, Config, Node, is_begun, order_numbered, before_begun, begin_in, installs_in, node_step}
+use Rattle.nf_net.proofs.Words.{first_owner, owner_after_order, owner_after, owner, has_begun-append, installed-append, any_picked, before_kept, before_new}
+use Rattle.nf_net.proofs.Words.{unit_fits, is_whole, takes_whole, takes_same, is_sys, Both, both, Given, place, owner_next, S, A, Joined, came_by, Scene}
+use Rattle.nf_net.proofs.Words.{IsTaken, node_of, scene, Wants, node_leads, AllApart, installed_quiet, installed_none, instance_quiet, controller_uninstalled}
+use Rattle.nf_net.proofs.Words.{Runs, given, all_fit, Unit, Order, split, Setting, IsCourse, world_of, MoveMsg}
 use Rattle.std.specs.List.{position_or_len}
 use Rattle.proof_machines.proofs.unit.Real as real
 use Rattle.proof_machines.proofs.net.GlobalAll.{Disjoint}
@@ -69,7 +69,7 @@ module _ {F R : Type 0} (setting : Setting F R) (n : ℕ) (count_is : n ≡ leng
 
     -- no change of the rules for a move that waits takes it
     pub unmoved : (k : ℕ) (flt : Filter) (from dst : ℕ) (rest : List (Any R)) → is_whole f.kind flt ≡ true
-        → j.world.link 1 0 ≡ Old (net.Mv flt (real.M_install k from dst)) ∷ rest → takes flt u ≡ false
+        → j.world.link 1 0 ≡ Old (net.Of_move flt (MoveMsg.Install k from dst)) ∷ rest → takes flt u ≡ false
     unmoved k flt from dst rest whole waits = sym (takes_same f.kind flt u whole fits) ∙ by_where (j.shown_is.every.unit u)
       where
         by_moves : Where (S f g) (is_sys f g.site g.packet) u (moves_of (S f g) (A f g) j.world) (came_by f g w.log u).all (came_by f g w.log u).bared

@@ -1,6 +1,6 @@
 -- The share that a unit is under, by the log: its home owns the unit, and each packet of the unit goes to its member. So in every run.
 use Rattle.nf_net.proofs.Words.{◌≡◌, ℕ, ◌+◌, Bool, true, false, Some, List, length, refl, sym, ap, ◌∙◌, arith, if◌then◌else◌, ◌&&◌, option_map_or, and_parts}
-use Rattle.nf_net.proofs.Words.{takes, same_unit-true, Msg, Note, instance_node, Choice, Network, shape, unit_share, OpenShare, WantShare, Under, seeing}
+use Rattle.nf_net.proofs.Words.{takes, same_unit-true, Msg, Note, instance_node, Choice, Network, shape, unit_share, OpenShare, ShareAsked, Under, seeing}
 use Rattle.nf_net.proofs.Words.{ItsShare, its_share, Node, is_of, packet_numbered, owner, members, member_for, unit_numbered, is_whole, unit_fits, is_sys}
 use Rattle.nf_net.proofs.Words.{Given, S, A, Joined, AllApart, run_beside, given, Unit, either_way, Runs, Setting, IsCourse, world_of}
 use Rattle.net_world.specs.Places.{goes_to}
@@ -35,7 +35,7 @@ module _ {F R : Type 0} (setting : Setting F R) (n : ℕ) (count_is : n ≡ leng
         ∙ member
 
   -- A unit under a share.
-  module _ (u : Unit) (x : WantShare) (before since : List ℕ) (k : Under (S f g) (A f g) (seeing (S f g) (A f g) u x) j.world before since) where
+  module _ (u : Unit) (x : ShareAsked) (before since : List ℕ) (k : Under (S f g) (A f g) (seeing (S f g) (A f g) u x) j.world before since) where
     abbrev diverts : Bool
     diverts = (shape (unit_share (S f g) (A f g) (seeing (S f g) (A f g) u x)) k.stage).diverts
 

@@ -1,13 +1,13 @@
 -- In every run the packets of units that a refused move was to take from its source were processed there, from its begin to its answer.
 use Rattle.nf_net.proofs.Words.{◌≡◌, ◌≢◌, ℕ, zero, suc, ◌<◌, Bool, true, false, Option, Some, None, List, [], ◌∷◌, ◌++◌, length, length-append, get_or}
-use Rattle.nf_net.proofs.Words.{append_assoc, append-nil, refl, sym, ap, ◌∙◌, subst, arith, ◌&&◌, ◌||◌, ◌==◌, not, nat_cmp, nat_tests, Decides-eqb}
-use Rattle.nf_net.proofs.Words.{Decides-ltb, and_parts, Filter, Output, Answer, Msg, Note, instance_node, switch_step, MoveState}
-use Rattle.nf_net.proofs.Words.{Operation, Move, Copy, Share, ControllerState, controller_step, opened_controller, place_of, Choice, Network, IsRun, reaches}
-use Rattle.nf_net.proofs.Words.{run, world_next, at, Takes, taken_outcome, Node, Controller, is_begun, has_answered, is_busy, answers_of, times_begun}
-use Rattle.nf_net.proofs.Words.{order_numbered, node_step, node_ready, owner, owner_after_order, unit_numbered, begins_in, answers_of-append}
-use Rattle.nf_net.proofs.Words.{times_begun-append, counted_now, owner_next, known, Given, Label, IsTaken, Joined, node_of, scene, Wants, node_leads}
-use Rattle.nf_net.proofs.Words.{installed_none, Stands, In_first, In_second, stands, each_there, switch_unprocessed, controller_uninstalled}
-use Rattle.nf_net.proofs.Words.{uninstalled_unprocessed, Runs, given, all_fit, Order, Done, nowhere, split, Setting, start}
+use Rattle.nf_net.proofs.Words.{append_assoc, append-nil, refl, sym, ap, ◌∙◌, subst, arith, ◌&&◌, ◌||◌, ◌==◌, not, nat_cmp, nat_tests, Decides-eqb, Decides-ltb}
+use Rattle.nf_net.proofs.Words.{and_parts, Filter, Output, Answer, Msg, Note, instance_node, switch_step, MoveState, Operation, Move, Copy, Share}
+use Rattle.nf_net.proofs.Words.{ControllerState, controller_step, opened_controller, place_of, Choice, Network, IsRun, reaches, run, world_next, at, Takes}
+use Rattle.nf_net.proofs.Words.{taken_outcome, Node, Controller, is_begun, has_answered, is_busy, answers_of, times_begun, order_numbered, node_step}
+use Rattle.nf_net.proofs.Words.{node_ready, owner, owner_after_order, unit_numbered, begins_in, answers_of-append, times_begun-append, counted_now, owner_next}
+use Rattle.nf_net.proofs.Words.{known, Given, Label, IsTaken, Joined, node_of, scene, Wants, node_leads, installed_none, Stands, In_first, In_second, stands}
+use Rattle.nf_net.proofs.Words.{each_there, switch_unprocessed, controller_uninstalled, uninstalled_unprocessed, Runs, given, all_fit, Order, Done, nowhere}
+use Rattle.nf_net.proofs.Words.{split, Setting, start}
 use Rattle.std.specs.FinMap as finite
 use Rattle.nf_function.specs.Units.{takes as takes_unit}
 use Rattle.net_world.specs.Refused.{moves_away, StaysAtSource}

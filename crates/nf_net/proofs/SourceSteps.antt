@@ -1,13 +1,13 @@
 -- As long as a move hasn't changed the rules, a unit that it takes from its source stays with the source: what each node's step keeps of it.
 use Rattle.nf_net.proofs.Words.{◌≡◌, ◌≢◌, ℕ, suc, true, false, Option, Some, None, List, [], ◌∷◌, ◌++◌, append_assoc, refl, sym, ap, ◌∙◌, subst, arith, ◌&&◌}
-use Rattle.nf_net.proofs.Words.{◌||◌, ◌==◌, filter_map, nat_tests, or-true, Filter, Output, Semantics, takes, stored_of, same_unit}
-use Rattle.nf_net.proofs.Words.{same_unit_equiv, Msg, Note, instance_node, Phase, MoveState, Move, InstanceState, instance_step, Network, queue_at, Each}
-use Rattle.nf_net.proofs.Words.{each-append, behind_nil, Open, find_op, none_mine, where_two, Any, New, ShareMsg, olds, moves_of, member_step, seeing, Where}
-use Rattle.nf_net.proofs.Words.{head_none, Config, Node, is_begun, order_numbered, installs_in, owner, owner_after, first_owner, unit_numbered}
-use Rattle.nf_net.proofs.Words.{has_begun-append, Sees, is_whole, unit_fits, takes_whole, takes_same, Given, place, S, A, Scene, IsTaken, IsInstanceAt, Joined}
-use Rattle.nf_net.proofs.Words.{came_by, outline_phase, ran_in, is_sys, installed_same, installed_quiet, Stands, In_first, In_second, stands, IsQuiet}
-use Rattle.nf_net.proofs.Words.{instance_quiet, AreUnprocessed, RanAs, Seen, Unseen, ran_as, ran_any, given, all_fit, but_shares, move_apart, WhereAll}
-use Rattle.nf_net.proofs.Words.{Apart_from_shares, Under_share, Unit, Answer, Setting}
+use Rattle.nf_net.proofs.Words.{◌||◌, ◌==◌, filter_map, nat_tests, or-true, Filter, Output, Semantics, takes, stored_of, same_unit, same_unit_equiv, Msg, Note}
+use Rattle.nf_net.proofs.Words.{instance_node, Phase, MoveState, Move, InstanceState, instance_step, Network, queue_at, Each, each-append, behind_nil, Open}
+use Rattle.nf_net.proofs.Words.{find_op, none_mine, where_two, Any, New, ShareMsg, olds, moves_of, member_step, seeing, Where, head_none, Config, Node}
+use Rattle.nf_net.proofs.Words.{is_begun, order_numbered, installs_in, owner, owner_after, first_owner, unit_numbered, has_begun-append, Sees, is_whole}
+use Rattle.nf_net.proofs.Words.{unit_fits, takes_whole, takes_same, Given, place, S, A, Scene, IsTaken, IsInstanceAt, Joined, came_by, outline_phase, ran_in}
+use Rattle.nf_net.proofs.Words.{is_sys, installed_same, installed_quiet, Stands, In_first, In_second, stands, IsQuiet, instance_quiet, AreUnprocessed, RanAs}
+use Rattle.nf_net.proofs.Words.{Seen, Unseen, ran_as, ran_any, given, all_fit, but_shares, move_apart, WhereAll, Apart_from_shares, Under_share, Unit, Answer}
+use Rattle.nf_net.proofs.Words.{Setting, MoveMsg}
 use Rattle.std.specs.FinMap as finite
 use Rattle.std.proofs.lemmas.List.{append_cancel_left}
 use Rattle.move_op.specs.Phases as phase
@@ -131,7 +131,7 @@ module _ {F R : Type 0} (setting : Setting F R) (n : ℕ) (w : Network (Node F R
 
       -- a change of the rules that the switch takes next
       pub other_change : (k : ℕ) (filter : Filter) (from to : ℕ) (rest : List (Any R)) → is_whole f.kind filter ≡ true
-          → j.world.link 1 0 ≡ Old (net.Mv filter (real.M_install k from to)) ∷ rest → takes filter u ≡ false
+          → j.world.link 1 0 ≡ Old (net.Of_move filter (MoveMsg.Install k from to)) ∷ rest → takes filter u ≡ false
       other_change k filter from to rest filter_whole waits = sym (takes_same f.kind filter u filter_whole fits)
           ∙ untaken (S f g) (is_sys f g.site g.packet) (moves_of (S f g) (A f g) j.world) op is_open.e is_open.found is_early_there u takes_it _ _ where_is
           route filter k from to (olds rest) (ap olds waits)

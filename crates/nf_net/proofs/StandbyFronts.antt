@@ -2,9 +2,9 @@
 -- one; and what sees more in the whole world that shows it has seen a front that goes on from the older.
 use Rattle.nf_net.proofs.Words.{◌≡◌, ℕ, ◌<◌, ◌≤◌, true, false, Option, Some, None, List, [], ◌∷◌, ◌++◌, length, refl, sym, ap, ◌∙◌, subst, arith, if◌then◌else◌}
 use Rattle.nf_net.proofs.Words.{nat_lt, slice_get, nat_tests, slice_get-get_or, slice_get_past, Semantics, kept_after, is_transport, Msg, Note, instance_node}
-use Rattle.nf_net.proofs.Words.{Network, Ran, done_u, ran_of, packets_done, live_front, fold_packets, Sees_more, Config, Node, packet_numbered}
-use Rattle.nf_net.proofs.Words.{dones_in, IsFront, processed_of, live_in, live_at, standby_in, standby_at, done-append, is_sys, Given, S, A, by_node, came_by}
-use Rattle.nf_net.proofs.Words.{Scene, AreShown, IsInstanceAt, Joined, went_same, given, Unit, Instance, split, Setting}
+use Rattle.nf_net.proofs.Words.{Network, Ran, done_u, ran_of, packets_done, live_front, fold_packets, Sees_more, Config, Node, packet_numbered, dones_in}
+use Rattle.nf_net.proofs.Words.{IsFront, processed_of, live_in, live_at, standby_in, standby_at, done-append, is_sys, Given, S, A, by_node, came_by, Scene}
+use Rattle.nf_net.proofs.Words.{AreShown, IsInstanceAt, Joined, went_same, given, Unit, Instance, split, Setting}
 use Rattle.std.specs.FinMap as finite
 use Rattle.std.proofs.lemmas.List.Sums.{fold-append}
 use Rattle.proof_machines.proofs.share.Share as share

@@ -1,13 +1,13 @@
 -- A choice of a run leaves what stands by at each instance, or lets it see more of what was processed of its unit: an instance's step by its message.
 use Rattle.nf_net.proofs.Words.{◌≡◌, ◌≢◌, ℕ, zero, suc, ◌+◌, ◌<◌, ◌≤◌, Bool, true, false, Option, Some, None, List, [], ◌∷◌, ◌++◌, length, get_or, refl, sym}
 use Rattle.nf_net.proofs.Words.{ap, ◌∙◌, subst, arith, ◌&&◌, ◌==◌, nat_lt, slice_get, filter_map, nat_tests, Decides-eqb, slice_get-get_or, slice_get_past}
-use Rattle.nf_net.proofs.Words.{Filter, Chunk, units_total, Fits, newest, Semantics, either, newest_of, each_newest, FullCell, Msg, Note}
-use Rattle.nf_net.proofs.Words.{instance_node, InstanceState, instance_step, Choice, Network, queue_at, world_next, at, Takes, Outcome, taken_outcome, Taking}
-use Rattle.nf_net.proofs.Words.{EachOn, record_at, New, ShareMsg, Shared_on, S_sync, member_step, ran_of, Sees_more, Node, most_counted}
-use Rattle.nf_net.proofs.Words.{dones_in, node_step, node_ready, processed_of, standby_in, standby_at, done-append, number, entries, ran_in, is_sys, is_sharing}
-use Rattle.nf_net.proofs.Words.{standby_keeps, HasBeside, its_takes, its_taken, Given, place, chunks_good, Rows, by_message, S, A, shown, by_node, came_by}
-use Rattle.nf_net.proofs.Words.{node_of, Genuine, AreGoodChunks, Scene, IsInstanceAt, AreShown, IsTaken, Joined, by_node-append, given, all_fit, Unit, Mark}
-use Rattle.nf_net.proofs.Words.{records_of, Instance, split, Setting}
+use Rattle.nf_net.proofs.Words.{Filter, Chunk, units_total, Fits, newest, Semantics, either, newest_of, each_newest, FullCell, Msg, Note, instance_node}
+use Rattle.nf_net.proofs.Words.{InstanceState, instance_step, Choice, Network, queue_at, world_next, at, Takes, Outcome, taken_outcome, Taking, EachOn}
+use Rattle.nf_net.proofs.Words.{record_at, New, ShareMsg, Shared_on, member_step, ran_of, Sees_more, Node, most_counted, dones_in, node_step, node_ready}
+use Rattle.nf_net.proofs.Words.{processed_of, standby_in, standby_at, done-append, number, entries, ran_in, is_sys, is_sharing, standby_keeps, HasBeside}
+use Rattle.nf_net.proofs.Words.{its_takes, its_taken, Given, place, chunks_good, Rows, by_message, S, A, shown, by_node, came_by, node_of, Genuine}
+use Rattle.nf_net.proofs.Words.{AreGoodChunks, Scene, IsInstanceAt, AreShown, IsTaken, Joined, by_node-append, given, all_fit, Unit, Mark, records_of, Instance}
+use Rattle.nf_net.proofs.Words.{split, Setting}
 use Rattle.std.specs.FinMap as finite
 use Rattle.instance_worker.specs.Instance.{Step, on_get}
 use Rattle.proof_machines.proofs.net.Net.{at_node}
@@ -136,7 +136,7 @@ module _ {F R : Type 0} (setting : Setting F R) (n : ℕ) (x : Scene F setting.f
 
   sync_sees : (u : Unit) (home : Bool) (op : ℕ) (chunks : List Chunk) → AreGoodChunks f g chunks → Now u (Msg.Sync home op chunks)
   sync_sees u home op chunks good t fronts room =
-      new_sees u (Msg.Sync home op chunks) (S_sync op home (entries f chunks)) refl t
+      new_sees u (Msg.Sync home op chunks) (ShareMsg.Sync op home (entries f chunks)) refl t
       (sync_follows f laws g.site g.packet (place g) i home op chunks (chunks_good f laws g chunks good))
       (instance_leaves f laws g fitting k two i (Msg.Sync home op chunks) p t.label right at.stands.sound).notes
 

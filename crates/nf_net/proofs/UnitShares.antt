@@ -2,12 +2,12 @@
 -- the log says of the unit's members is what the controller serves.
 use Rattle.nf_net.proofs.Words.{◌≡◌, ℕ, ◌+◌, ◌<◌, ◌≤◌, inl, inr, Bool, true, false, Option, Some, None, List, [], ◌∷◌, map, length, refl, sym, ap, ◌∙◌, subst}
 use Rattle.nf_net.proofs.Words.{arith, if◌then◌else◌, ◌&&◌, ◌||◌, ◌==◌, not, find, is_some, slice_index, slice_index_or, filter_map, length-map, Decides-eqb}
-use Rattle.nf_net.proofs.Words.{Filter, Flow, takes, Msg, Note, instance_node, ShareState, home, SharePhase, Operation, Move, Copy, Share, place_of}
-use Rattle.nf_net.proofs.Words.{Network, Stage, UnitShare, shape, where_two, found_each, unit_share, OpenShare, moves_of, ElsewhereHome, seeing, ItsShare}
-use Rattle.nf_net.proofs.Words.{its_share, WhereAll, Apart_from_shares, Under_share, Node, is_begun, has_answered, is_share, answers_of}
-use Rattle.nf_net.proofs.Words.{times_installed, order_numbered, packet_numbered, installs_in, first_owner, is_home, owner, members, member_for}
-use Rattle.nf_net.proofs.Words.{unit_fits, takes_whole, takes_same, is_sys, Both, both, RealShare, real_share, Given, place, is_diverted, S, A, Joined, came_by}
-use Rattle.nf_net.proofs.Words.{AreApart, AllApart, names_known, given, Unit, Order, flow_of, Done, split, Setting}
+use Rattle.nf_net.proofs.Words.{Filter, Flow, takes, Msg, Note, instance_node, ShareState, home, SharePhase, Operation, Move, Copy, Share, place_of, Network}
+use Rattle.nf_net.proofs.Words.{Stage, UnitShare, shape, where_two, found_each, unit_share, OpenShare, moves_of, ElsewhereHome, seeing, ItsShare, its_share}
+use Rattle.nf_net.proofs.Words.{WhereAll, Apart_from_shares, Under_share, Node, is_begun, has_answered, is_share, answers_of, times_installed, order_numbered}
+use Rattle.nf_net.proofs.Words.{packet_numbered, installs_in, first_owner, is_home, owner, members, member_for, unit_fits, takes_whole, takes_same, is_sys}
+use Rattle.nf_net.proofs.Words.{Both, both, RealShare, real_share, Given, place, is_diverted, S, A, Joined, came_by, AreApart, AllApart, names_known, given}
+use Rattle.nf_net.proofs.Words.{Unit, Order, flow_of, Done, split, Setting}
 use Rattle.std.specs.Prelude.{◌%◌}
 use Rattle.std.specs.FinMap as finite
 use Rattle.std.proofs.lemmas.Nat.{mod_below}

@@ -1,10 +1,10 @@
 -- Every run keeps the window, and a complete one has all cells at home.
 use Rattle.nf_net.proofs.Words.{◌≡◌, ℕ, zero, suc, ◌+◌, ◌≤◌, Bool, true, false, Some, List, [], ◌∷◌, length, length-append, get_or, refl, sym, ap, ◌∙◌, subst}
-use Rattle.nf_net.proofs.Words.{arith, ◌==◌, ◌&&◌, flat_map, nat_tests, Decides-eqb, slice_get-get_or, Semantics, Msg, Note, SwitchState}
-use Rattle.nf_net.proofs.Words.{switch_step, Choice, Network, is_done, reaches, world_next, at, Takes, taken_outcome, opening_weight, done_node}
-use Rattle.nf_net.proofs.Words.{done_weight, EachSent, weigh, total, sent_weight, total_after, Each, Node, Switch, arrivals_in, dones_in}
-use Rattle.nf_net.proofs.Words.{node_step, node_ended, first_nodes, first_switch, on_links, AllHome, arrived-append, done-append}
-use Rattle.nf_net.proofs.Words.{given, all_labelled, Given, Label, Joined, node_of, run_beside, Setting, start, IsCourse, world_of}
+use Rattle.nf_net.proofs.Words.{arith, ◌==◌, ◌&&◌, flat_map, nat_tests, Decides-eqb, slice_get-get_or, Semantics, Msg, Note, SwitchState, switch_step, Choice}
+use Rattle.nf_net.proofs.Words.{Network, is_done, reaches, world_next, at, Takes, taken_outcome, opening_weight, done_node, done_weight, EachSent, weigh, total}
+use Rattle.nf_net.proofs.Words.{sent_weight, total_after, Each, Node, Switch, arrivals_in, dones_in, node_step, node_ended, first_nodes, first_switch, on_links}
+use Rattle.nf_net.proofs.Words.{AllHome, arrived-append, done-append, given, all_labelled, Given, Label, Joined, node_of, run_beside, Setting, start, IsCourse}
+use Rattle.nf_net.proofs.Words.{world_of}
 use Rattle.net_world.specs.Window.{Window, homeward, switch_in, switch_of}
 use Rattle.nf_net.proofs.answers.CreditCounts.{credit, no_credit_from, no_credit_to, none_sent, instance_is}
 use Rattle.nf_net.proofs.answers.ArrivalNotes.{controller_notes_none}

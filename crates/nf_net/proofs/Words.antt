@@ -137,15 +137,15 @@ pub use Rattle.proof_machines.proofs.net.Elsewhere.{where_two}
 pub use Rattle.proof_machines.proofs.net.GlobalAll.{GlobalAll, OfShare}
 pub use Rattle.proof_machines.proofs.net.Holding.{OpLabel, Seeing, node_at, place as side_place, frame, RuleLabel}
 pub use Rattle.proof_machines.proofs.net.MemberSteps.{does}
-pub use Rattle.proof_machines.proofs.net.Net.{IsSys, Open, Sys, inst_step, Mv, find_op, seen, MoveAsked, find_rule, held_of, World}
+pub use Rattle.proof_machines.proofs.net.Net.{IsSys, Open, Sys, inst_step, Of_move, find_op, seen, MoveAsked, find_rule, held_of, World}
 pub use Rattle.proof_machines.proofs.net.NewMessages.{new_head}
 pub use Rattle.proof_machines.proofs.net.Readings.{not_both, seat_parts}
 pub use Rattle.proof_machines.proofs.net.Rest.{done_u, none_mine, NothingOf, RestRule, RestOp}
 pub use Rattle.proof_machines.proofs.net.ShareLabels.{label_of, ShareLabel}
 pub use Rattle.proof_machines.proofs.net.ShareLists.{found_each}
 pub use Rattle.proof_machines.proofs.net.ShareViews.{unit_share, as_share, share_expect, share_seen, share_items, own_at}
-pub use Rattle.proof_machines.proofs.net.Shares.{ran_of, OpenShare, find_share, moves_of, olds, Any, Sharing, IsSharing, WantShare, WholeWorld, SeeingShare}
-pub use Rattle.proof_machines.proofs.net.Shares.{S_install, New, Shared_on, S_sync, same, ShareMsg, member_step, S_asked, S_shared, EachNew}
+pub use Rattle.proof_machines.proofs.net.Shares.{ran_of, OpenShare, find_share, moves_of, olds, Any, Sharing, IsSharing, ShareAsked, WholeWorld, SeeingShare}
+pub use Rattle.proof_machines.proofs.net.Shares.{ShareMsg, New, Shared_on, same, member_step, EachNew}
 pub use Rattle.proof_machines.proofs.net.Under.{Under}
 pub use Rattle.proof_machines.proofs.net.UnderInst.{heads, inst_from}
 pub use Rattle.proof_machines.proofs.net.UnderStarts.{seeing, packets_done}
@@ -167,8 +167,7 @@ pub use Rattle.proof_machines.proofs.unit.Loose.{none_in}
 pub use Rattle.proof_machines.proofs.unit.Machine.{State, idle, At_a, At_b, Carry, Event, Fence_to, Install, Stray}
 pub use Rattle.proof_machines.proofs.unit.Pairs.{expect}
 pub use Rattle.proof_machines.proofs.unit.Path.{passes_in, events_in}
-pub use Rattle.proof_machines.proofs.unit.Real.{M_fenced, M_install, M_fence_to, where_true, add, Chunks, M_stream, record_at, Frame, sends_to, Op, see_phase}
-pub use Rattle.proof_machines.proofs.unit.Real.{only_mine}
+pub use Rattle.proof_machines.proofs.unit.Real.{MoveMsg, where_true, add, Chunks, record_at, Frame, sends_to, Op, see_phase, only_mine}
 pub use Rattle.proof_machines.proofs.unit.Rests.{exactly, behind_nil, is_over}
 pub use Rattle.proof_machines.proofs.unit.Seats.{seat_shape, seat_path, UnitSeat, seat_all}
 pub use Rattle.proof_machines.proofs.unit.Sides.{for_switch}

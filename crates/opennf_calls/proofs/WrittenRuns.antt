@@ -16,8 +16,8 @@ use Rattle.opennf_calls.specs.Outcome.{ForResults}
 use Rattle.call_files.specs.Files.{IsBound}
 use Rattle.call_files.specs.Phases.{GivesReport, OnlyRead, gives}
 use Rattle.opennf_calls.specs.Ended.{Performs}
-use Rattle.call_files.specs.Writing.{Written, all_of, front_of, is_part, report_end, Wrote, WroteReport}
-use Rattle.call_files.specs.Writing.{WroteBoth, WroteFront, WroteRun, Report_alone, Both, Front_alone, Nothing}
+use Rattle.call_files.specs.Writing.{Written, all_of, front_of, is_part, report_end, Wrote, WroteReport, WroteBoth, WroteFront, WroteRun, Report_alone, Both}
+use Rattle.call_files.specs.Writing.{Front_alone, Nothing}
 use Rattle.opennf_calls.proofs.RowLemmas.{ends, report_failed, report_written, silent}
 use Rattle.opennf_calls.proofs.TwoResults.{GivesBoth, WritesFirst, both_written, file_failed, second_failed}
 

@@ -1,6 +1,6 @@
 -- Lists whose elements have numbers: what a number finds after elements were put behind, changed or taken away, and what they all keep.
-use Rattle.std.proofs.Common.{◌≡◌, ℕ, true, false, not, Option, Some, None, List, [], ◌∷◌, ◌++◌, ◌<◌, ◌≤◌, map, filter, find, option_map, refl, ap, subst}
-use Rattle.std.proofs.Common.{cond, ◌∙◌, arith, ◌==◌, if◌then◌else◌}
+use Rattle.std.proofs.Common.{◌≡◌, ℕ, true, false, not, Option, Some, None, List, [], ◌∷◌, ◌++◌, ◌<◌, ◌≤◌, map, filter, find, option_map, refl, ap, subst, cond}
+use Rattle.std.proofs.Common.{◌∙◌, arith, ◌==◌, if◌then◌else◌}
 use Rattle.std.proofs.lemmas.Bool.{eqb-true}
 use Rattle.std.proofs.lemmas.Bool.Decides.{nat_tests}
 use Rattle.std.proofs.lemmas.List.Folds.{find-append}

@@ -2,6 +2,7 @@
 pub mod AtEnd
 pub mod Words
 pub mod Net
+pub mod ShareMessages
 pub mod Shares
 pub mod RuleLists
 pub mod Fresh

@@ -13,6 +13,7 @@ pub mod Back
 pub mod Steps
 pub mod TableViews
 pub mod TableRows
+pub mod MoveMessages
 pub mod Real
 pub mod RealRows
 pub mod Seen

@@ -122,25 +122,24 @@ pub use Rattle.proof_machines.proofs.net.Copies.{have, copies, one_copy, one_cop
 pub use Rattle.proof_machines.proofs.net.Ctrl.{each_found, find_set, find_write_other}
 pub use Rattle.proof_machines.proofs.net.GlobalAll.{TakesSome}
 pub use Rattle.proof_machines.proofs.net.Net.{Open, find_op, behind, MoveAsked, new_op, begin_sends, meets_any, links_after, close_op, set_op, write_op, num_of}
-pub use Rattle.proof_machines.proofs.net.Net.{found, numbered, sw_target, inst_step, put, everything, is_free, at_node, Sys, IsSys, Mv, NumberedInstance}
+pub use Rattle.proof_machines.proofs.net.Net.{found, numbered, sw_target, inst_step, put, everything, is_free, at_node, Sys, IsSys, Of_move, NumberedInstance}
 pub use Rattle.proof_machines.proofs.net.Net.{Ruling, ControllerMove, wrap, InstanceTurn, find_rule, drop_rule, change_rules, has_rule, set_rule, ruled_by}
 pub use Rattle.proof_machines.proofs.net.Net.{holding, held_of, process, process_all, runs_it, by_rule, row_of, Room, to_ctrl, sw_sends}
 pub use Rattle.proof_machines.proofs.net.Rest.{none_mine, done_u, RestRule}
 pub use Rattle.proof_machines.proofs.net.ShareLists.{AreNumbersApart, found_num, found_each, find_old, find_new}
 pub use Rattle.proof_machines.proofs.net.ShareRows.{taking_each, taking_found}
-pub use Rattle.proof_machines.proofs.net.Shares.{WholeWorld, Any, New, S_asked, S_install, WantShare, new_share, whole_ctrl, begin_share, MayShare, Old, S_get}
-pub use Rattle.proof_machines.proofs.net.Shares.{OpenShare, find_share, moves_of, as_old, begin_move, puts_get, meets_shares, S_chunks, Has_chunks, by_share}
-pub use Rattle.proof_machines.proofs.net.Shares.{told_by, share_target, ShareMsg, Shared_on, S_sync, member_step, whole_inst, Sharing, olds, S_shared, S_synced}
-pub use Rattle.proof_machines.proofs.net.Shares.{Diverted_on, share_taking, Told, Is_fenced, Has_chunk, Is_synced, Has_packet, ran_of, EachNew, arrive_sends}
-pub use Rattle.proof_machines.proofs.net.Shares.{asks, whole_input, S_forward, whole_switch, share_row, old_step, MemberTurn, shared_chunk, SharesStep}
-pub use Rattle.proof_machines.proofs.net.Shares.{ShareTurn, set_share, share_sends, IsSharing}
+pub use Rattle.proof_machines.proofs.net.Shares.{WholeWorld, Any, New, ShareMsg, ShareAsked, new_share, whole_ctrl, begin_share, MayShare, Old, OpenShare}
+pub use Rattle.proof_machines.proofs.net.Shares.{find_share, moves_of, as_old, begin_move, puts_get, meets_shares, Has_chunks, by_share, told_by, share_target}
+pub use Rattle.proof_machines.proofs.net.Shares.{Shared_on, member_step, whole_inst, Sharing, olds, Diverted_on, share_taking, Told, Is_fenced, Has_chunk}
+pub use Rattle.proof_machines.proofs.net.Shares.{Is_synced, Has_packet, ran_of, EachNew, arrive_sends, asks, whole_input, whole_switch, share_row, old_step}
+pub use Rattle.proof_machines.proofs.net.Shares.{MemberTurn, shared_chunk, SharesStep, ShareTurn, set_share, share_sends, IsSharing}
 pub use Rattle.proof_machines.proofs.net.Stores.{ends}
 pub use Rattle.proof_machines.proofs.net.Waits.{Rising, rising_less}
 pub use Rattle.proof_machines.proofs.share.Lists.{self, cond-cond}
 pub use Rattle.proof_machines.proofs.share.Share.{has, without_number, over}
 pub use Rattle.proof_machines.proofs.unit.Labels.{Each, each-append, each_map, each_any, each_both}
 pub use Rattle.proof_machines.proofs.unit.Machine.{is_nil}
-pub use Rattle.proof_machines.proofs.unit.Real.{sent_for, RPhase, record_at, Chunks, M_event, M_put_no, M_enable, M_fenced, Op, OperationTurn, r_words, RPiece}
+pub use Rattle.proof_machines.proofs.unit.Real.{sent_for, MovePhase, record_at, Chunks, MoveMsg, Op, OperationTurn, operation_words, MovePiece}
 pub use Rattle.proof_machines.proofs.unit.RecordTables.{live_table}
 pub use Rattle.proof_machines.proofs.whole.EveryAll.{EveryAll, ctrl_every_all, share_every_all, move_every_all, get_every_all, MayKeep, inst_every_all}
 pub use Rattle.proof_machines.proofs.whole.EveryAll.{keeps_every_all, input_every_all, asks_move_every_all, asks_share_every_all, switch_every_all}

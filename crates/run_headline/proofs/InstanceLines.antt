@@ -1,6 +1,6 @@
 -- What the report of every completed run says of its instances: their tallies, and the records that stand by, each by itself and with shares.
-use Rattle.std.proofs.Common.{◌≡◌, ◌≢◌, ℕ, zero, suc, ◌+◌, ◌<◌, ◌≤◌, Bool, true, false, not, Option, Some, None, List, [], ◌∷◌, ◌++◌, length, map, take}
-use Rattle.std.proofs.Common.{refl, sym, ap, ◌∙◌, subst, slice_index, arith}
+use Rattle.std.proofs.Common.{◌≡◌, ◌≢◌, ℕ, zero, suc, ◌+◌, ◌<◌, ◌≤◌, Bool, true, false, not, Option, Some, None, List, [], ◌∷◌, ◌++◌, length, map, take, refl}
+use Rattle.std.proofs.Common.{sym, ap, ◌∙◌, subst, slice_index, arith}
 use Rattle.std.specs.Prelude.{if◌then◌else◌, ◌==◌, filter_map, find, is_some, option_map, option_to_list, slice_get, zip}
 use Rattle.std.specs.List.{AllByRecursion, list_any, take-map}
 use Rattle.std.specs.Str.{bytes_eq}

@@ -1,7 +1,7 @@
 -- The records of a unit under a name, among those of all instances sorted by their units: where no two names are alike, the one of the instance
 -- with the name.
-use Rattle.std.proofs.Common.{◌≡◌, ℕ, zero, suc, ◌<◌, ◌≤◌, Bool, true, false, ◌&&◌, cond, Option, Some, None, List, [], ◌∷◌, ◌++◌, length, map, get_or}
-use Rattle.std.proofs.Common.{refl, sym, ap, ◌∙◌, subst, append-nil, arith}
+use Rattle.std.proofs.Common.{◌≡◌, ℕ, zero, suc, ◌<◌, ◌≤◌, Bool, true, false, ◌&&◌, cond, Option, Some, None, List, [], ◌∷◌, ◌++◌, length, map, get_or, refl}
+use Rattle.std.proofs.Common.{sym, ap, ◌∙◌, subst, append-nil, arith}
 use Rattle.std.specs.Prelude.{T, filter, option_to_list, zip}
 use Rattle.std.specs.List.{AllByRecursion, flat_map, list_any}
 use Rattle.std.specs.Ordering.{is_lt}

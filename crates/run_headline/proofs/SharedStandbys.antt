@@ -23,7 +23,7 @@ use Rattle.run_report.specs.proof_machines.proofs.net.Readings as readings
 use Rattle.run_report.specs.proof_machines.proofs.net.Rest.{done_u}
 use Rattle.run_report.specs.proof_machines.proofs.net.ShareLists.{found_each}
 use Rattle.run_report.specs.proof_machines.proofs.net.ShareViews.{unit_share}
-use Rattle.run_report.specs.proof_machines.proofs.net.Shares.{OpenShare, SeeingShare, WantShare, moves_of}
+use Rattle.run_report.specs.proof_machines.proofs.net.Shares.{OpenShare, SeeingShare, ShareAsked, moves_of}
 use Rattle.run_report.specs.proof_machines.proofs.net.Under.{Under}
 use Rattle.run_report.specs.proof_machines.proofs.net.UnderReadings.{all_done, under_rests}
 use Rattle.run_report.specs.proof_machines.proofs.net.UnderStarts.{seeing}
@@ -94,12 +94,12 @@ module _ {F R : Type 0} (setting : Setting F R) (n : ℕ) (count_is : n ≡ leng
 
   module _ (quiet : (i k : ℕ) → i < n → k < n → (i == 0) && (k == 0) ≡ false → j.world.link i k ≡ []) where
     -- where the unit is under a share, it is this one
-    module _ (x : WantShare) (before since : List ℕ) (h : Under (S f g) (A f g) (seeing (S f g) (A f g) u x) j.world before since) where
+    module _ (x : ShareAsked) (before since : List ℕ) (h : Under (S f g) (A f g) (seeing (S f g) (A f g) u x) j.world before since) where
       abbrev z : SeeingShare
       z = seeing (S f g) (A f g) u x
 
-      abbrev fr : UnitShare R
-      fr = unit_share (S f g) (A f g) z
+      abbrev own_share : UnitShare R
+      own_share = unit_share (S f g) (A f g) z
 
       abbrev here : OpenShare
       here = its_share (S f g) (A f g) laws_of u j.world x before since h
@@ -127,7 +127,7 @@ module _ {F R : Type 0} (setting : Setting F R) (n : ℕ) (count_is : n ≡ leng
           → (S f g).B.at u (j.world.standby k) ≡ readings.fold (S f g).F None (done_u (S f g) u j.world.done)
       kept_all k inside off =
           let rest = under_rests (S f g) (A f g) z j.world before since h n (omega (arith, count_is)) few quiet in
-          (rw off at (h.holds.own k inside)) ∙ own_is fr h.stage k
+          (rw off at (h.holds.own k inside)) ∙ own_is own_share h.stage k
           ∙ ap (runs (S f g).F None) (rest.seen k ∙ sym (all_done (S f g) (A f g) z j.world before since h))
           ∙ fold_done (S f g) (A f g) laws_of u None j.world.done
 

@@ -1,10 +1,10 @@
 -- The switch takes the packets of the input in their order: those that arrived and those that wait are those that were given. This
 -- holds of each world of a run, beside what holds of it as one (`runs_joined`).
 use Rattle.nf_net.proofs.Words.{◌≡◌, ℕ, zero, suc, ◌+◌, true, false, List, [], ◌∷◌, ◌++◌, map, length, drop, append_assoc, refl, sym, ap, ◌∙◌, arith}
-use Rattle.nf_net.proofs.Words.{if◌then◌else◌, ◌&&◌, ◌==◌, unwrap_or, nat_tests, Packet, Semantics, Target, Msg, Note, SwitchState}
-use Rattle.nf_net.proofs.Words.{has_room, is_there, target_of, Choice, Network, world_next, queue_at, at, opening_waiting, less_first, Node}
-use Rattle.nf_net.proofs.Words.{arrivals_in, node_step, IsFront, first_nodes, Given, node_of, Scene, AreShown, IsTaken, given}
-use Rattle.nf_net.proofs.Words.{arrived-append, flow_of, Runs, run_beside, runs_next, split, Setting, IsCourse, world_of}
+use Rattle.nf_net.proofs.Words.{if◌then◌else◌, ◌&&◌, ◌==◌, unwrap_or, nat_tests, Packet, Semantics, Target, Msg, Note, SwitchState, has_room, is_there}
+use Rattle.nf_net.proofs.Words.{target_of, Choice, Network, world_next, queue_at, at, opening_waiting, less_first, Node, arrivals_in, node_step, IsFront}
+use Rattle.nf_net.proofs.Words.{first_nodes, Given, node_of, Scene, AreShown, IsTaken, given, arrived-append, flow_of, Runs, run_beside, runs_next, split}
+use Rattle.nf_net.proofs.Words.{Setting, IsCourse, world_of}
 use Rattle.switch_rules.specs.Rules.{first_match}
 use Rattle.switch_node.specs.Switch.{still, goes_to, on_packet}
 use Rattle.net_world.specs.Input.{packets}

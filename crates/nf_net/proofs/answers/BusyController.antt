@@ -2,9 +2,9 @@
 use Rattle.nf_net.proofs.Words.{◌≡◌, ℕ, true, false, Option, Some, None, List, [], ◌∷◌, ◌++◌, refl, sym, ap, ◌∙◌, subst, if◌then◌else◌, ◌==◌, Filter, Semantics}
 use Rattle.nf_net.proofs.Words.{FullCell, Answer, Order, Msg, Note, switch_node, instance_node, op_of, Keeping, SharePlan, ShareState, MoveState, MoveRow}
 use Rattle.nf_net.proofs.Words.{row_in, answer_of, move_at_start, Operation, Move, Copy, Share, turn_of, turn_of_move, ControllerState, on_asked, on_diverted}
-use Rattle.nf_net.proofs.Words.{after_turn, takes_turn, hand_step, on_final, instance_at, step_and_finish, controller_step, place_of, stored_of}
-use Rattle.nf_net.proofs.Words.{EachSent, CopyTurn, Idle, Hands, Hands_all, Ends, hands, copy_turn, got_insert, remove_insert, NotShared, Given, Label}
-use Rattle.nf_net.proofs.Words.{answered, noted, is_share, sent-append, Done, split}
+use Rattle.nf_net.proofs.Words.{after_turn, takes_turn, hand_step, on_final, instance_at, step_and_finish, controller_step, place_of, stored_of, EachSent}
+use Rattle.nf_net.proofs.Words.{CopyTurn, Idle, Hands, Hands_all, Ends, hands, copy_turn, got_insert, remove_insert, NotShared, Given, Label, answered, noted}
+use Rattle.nf_net.proofs.Words.{is_share, sent-append, Done, split}
 use Rattle.std.specs.FinMap as finite
 use Rattle.copy_share.specs.Copy as copy
 use Rattle.copy_share.specs.Share as share

@@ -3,9 +3,9 @@
 use Rattle.nf_net.proofs.Words.{◌≡◌, ◌≢◌, ℕ, Bool, true, false, cond, Option, Some, None, List, [], ◌∷◌, ◌++◌, refl, sym, ap, ◌∙◌, subst, arith, if◌then◌else◌}
 use Rattle.nf_net.proofs.Words.{◌==◌, Decides-eqb, Filter, Semantics, FullCell, Answer, Order, Msg, Note, stored_of, Keeping, CopyPlan, CopyState, SharePlan}
 use Rattle.nf_net.proofs.Words.{ShareState, MovePlan, MoveState, MoveRow, row_in, move_at_start, answer_of, Operation, Move, Copy, Share, turn_of, turn_of_move}
-use Rattle.nf_net.proofs.Words.{ControllerState, on_asked, on_diverted, after_turn, takes_turn, hand_step, may_finish, step_and_finish}
-use Rattle.nf_net.proofs.Words.{controller_step, reaches, sent_weight, row_by, NotMove, CopyTurn, Idle, Hands, Hands_all, Ends, hands, copy_turns, got_insert}
-use Rattle.nf_net.proofs.Words.{got_remove, gone_twice, NotShared, answered, noted, Given, IsPlan, IsCopyPlan, Label, Mark, Done, split}
+use Rattle.nf_net.proofs.Words.{ControllerState, on_asked, on_diverted, after_turn, takes_turn, hand_step, may_finish, step_and_finish, controller_step}
+use Rattle.nf_net.proofs.Words.{reaches, sent_weight, row_by, NotMove, CopyTurn, Idle, Hands, Hands_all, Ends, hands, copy_turns, got_insert, got_remove}
+use Rattle.nf_net.proofs.Words.{gone_twice, NotShared, answered, noted, Given, IsPlan, IsCopyPlan, Label, Mark, Done, split}
 use Rattle.std.specs.FinMap as finite
 use Rattle.copy_share.specs.Copy as copy
 use Rattle.copy_share.specs.Share as share

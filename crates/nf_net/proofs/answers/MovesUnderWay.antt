@@ -1,6 +1,6 @@
 -- In every run the open operations of the controller are the commands that keep others off, and what it knows of a move is what its order says.
-use Rattle.nf_net.proofs.Words.{◌≡◌, ℕ, ◌+◌, true, false, Some, None, List, length, refl, Msg, Note, MoveState, Move, Choice, Network, Node}
-use Rattle.nf_net.proofs.Words.{order_numbered, is_busy, keeps_off, given, IsPlan, Joined, Setting, IsCourse, world_of}
+use Rattle.nf_net.proofs.Words.{◌≡◌, ℕ, ◌+◌, true, false, Some, None, List, length, refl, Msg, Note, MoveState, Move, Choice, Network, Node, order_numbered}
+use Rattle.nf_net.proofs.Words.{is_busy, keeps_off, given, IsPlan, Joined, Setting, IsCourse, world_of}
 use Rattle.std.specs.FinMap as finite
 use Rattle.nf_net.proofs.answers.BusyRuns.{keeps_is, open_busy, closed_busy, plan_is}
 use Rattle.nf_net.proofs.answers.CommandPromises.{run_busy}

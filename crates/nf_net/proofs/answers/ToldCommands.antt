@@ -1,13 +1,13 @@
 -- No command is lost: each of the input waits still, or the log says that it began or was answered. So in a complete run each is answered.
 use Rattle.nf_net.proofs.Words.{◌≡◌, ℕ, zero, suc, ◌+◌, ◌≤◌, Bool, true, false, Option, Some, None, List, [], ◌∷◌, ◌++◌, length, refl, sym, ap, ◌∙◌, subst}
-use Rattle.nf_net.proofs.Words.{arith, if◌then◌else◌, ◌&&◌, ◌||◌, ◌==◌, not, nat_lt, find, is_some, option_map, filter_map, option_or, nat_tests}
-use Rattle.nf_net.proofs.Words.{Decides-eqb, Decides-ltb, and_parts, Filter, Semantics, Answer, Unknown, Overlap, Order, Msg, Note, Choice}
-use Rattle.nf_net.proofs.Words.{Network, is_done, reaches, world_next, done_weight, at, opening_weight, Takes, taken_outcome, weigh, total}
-use Rattle.nf_net.proofs.Words.{sent_weight, total_after, Operation, Move, Copy, Share, ControllerState, refusal, unknown_name, overlap, move_between}
-use Rattle.nf_net.proofs.Words.{copy_between, share_begin, begin_step, decision_step, on_asked, controller_step, place_of, SwitchState, switch_step}
-use Rattle.nf_net.proofs.Words.{Node, Controller, is_begun, has_answered, is_share, keeps_off, answers_of, commands, order_numbered, ends_last}
-use Rattle.nf_net.proofs.Words.{node_step, node_ended, first_nodes, answers_in, has_begun-append, has_answered-append, is_whole}
-use Rattle.nf_net.proofs.Words.{Given, Label, Joined, node_of, names_known, given, Done, split, Setting, start, IsCourse, world_of}
+use Rattle.nf_net.proofs.Words.{arith, if◌then◌else◌, ◌&&◌, ◌||◌, ◌==◌, not, nat_lt, find, is_some, option_map, filter_map, option_or, nat_tests, Decides-eqb}
+use Rattle.nf_net.proofs.Words.{Decides-ltb, and_parts, Filter, Semantics, Answer, Unknown, Overlap, Order, Msg, Note, Choice, Network, is_done, reaches}
+use Rattle.nf_net.proofs.Words.{world_next, done_weight, at, opening_weight, Takes, taken_outcome, weigh, total, sent_weight, total_after, Operation, Move}
+use Rattle.nf_net.proofs.Words.{Copy, Share, ControllerState, refusal, unknown_name, overlap, move_between, copy_between, share_begin, begin_step}
+use Rattle.nf_net.proofs.Words.{decision_step, on_asked, controller_step, place_of, SwitchState, switch_step, Node, Controller, is_begun, has_answered}
+use Rattle.nf_net.proofs.Words.{is_share, keeps_off, answers_of, commands, order_numbered, ends_last, node_step, node_ended, first_nodes, answers_in}
+use Rattle.nf_net.proofs.Words.{has_begun-append, has_answered-append, is_whole, Given, Label, Joined, node_of, names_known, given, Done, split, Setting, start}
+use Rattle.nf_net.proofs.Words.{IsCourse, world_of}
 use Rattle.std.specs.FinMap as finite
 use Rattle.ctrl_node.specs.Controller as controller
 use Rattle.ctrl_node.specs.Controller.{Step, still}

@@ -3,10 +3,10 @@
 use Rattle.nf_net.proofs.Words.{◌≡◌, ◌≢◌, inl, inr, ℕ, zero, suc, ◌+◌, ◌<◌, ◌≤◌, Bool, true, false, None, List, [], ◌∷◌, length, length-append, get_or, refl}
 use Rattle.nf_net.proofs.Words.{sym, ap, ◌∙◌, subst, arith, if◌then◌else◌, ◌&&◌, ◌==◌, nat_tests, Decides-eqb, length-map, Each, each-append, Fits}
 use Rattle.nf_net.proofs.Words.{FunctionLaws, Semantics, Msg, Note, instance_node, ControllerState, may_finish, controller_step, opened_controller, SwitchState}
-use Rattle.nf_net.proofs.Words.{switch_step, InstanceState, instance_step, Choice, Network, reaches, world_next, queue_at, at, put_on_link}
-use Rattle.nf_net.proofs.Words.{opening_weight, Takes, taken_outcome, weigh, total, total_after, Node, Switch, Controller, node_step}
-use Rattle.nf_net.proofs.Words.{node_ended, first_nodes, first_switch, first_instance, first_instances, Given, Label, Joined, node_of, given}
-use Rattle.nf_net.proofs.Words.{all_fit, Instance, split, Setting, start, IsCourse, world_of}
+use Rattle.nf_net.proofs.Words.{switch_step, InstanceState, instance_step, Choice, Network, reaches, world_next, queue_at, at, put_on_link, opening_weight}
+use Rattle.nf_net.proofs.Words.{Takes, taken_outcome, weigh, total, total_after, Node, Switch, Controller, node_step, node_ended, first_nodes, first_switch}
+use Rattle.nf_net.proofs.Words.{first_instance, first_instances, Given, Label, Joined, node_of, given, all_fit, Instance, split, Setting, start, IsCourse}
+use Rattle.nf_net.proofs.Words.{world_of}
 use Rattle.nf_net.proofs.RunWords.{own_controller, flag, run_keeps}
 use Rattle.nf_net.proofs.answers.InstallCounts.{finish}
 use Rattle.nf_net.proofs.answers.InstallNotes.{no_install_to}

@@ -1,10 +1,10 @@
 -- Where no message is on a link no packet is under way: each unit that came rests, with all its packets processed.
 use Rattle.nf_net.proofs.Words.{◌≡◌, ℕ, ◌+◌, ◌<◌, ◌≤◌, true, false, List, [], ◌∷◌, ◌++◌, map, length, append-nil, refl, sym, ap, ◌∙◌, subst, arith}
-use Rattle.nf_net.proofs.Words.{filter-append, if◌then◌else◌, ◌&&◌, ◌==◌, nat_lt, filter, Packet, unit_at, same_unit-true, Target, Msg, Note}
-use Rattle.nf_net.proofs.Words.{is_there, Network, IsWorld, queue_at, at, Each, firsts, nil_right, same_of, none_in, IsSys, AtEnd, OpenShare, moves_of, EndsAll}
-use Rattle.nf_net.proofs.Words.{At_share, ShareRests, end_all, Node, Switch, packet_numbered, arrivals_in, is_loose, is_of, arrived_of}
-use Rattle.nf_net.proofs.Words.{processed_of, is_sys, target_node, Given, Label, GenuinePacket, S, A, came_by, Joined, done_same, same_times, given, genuine}
-use Rattle.nf_net.proofs.Words.{silent_total, Unit, flow_of, split, Setting}
+use Rattle.nf_net.proofs.Words.{filter-append, if◌then◌else◌, ◌&&◌, ◌==◌, nat_lt, filter, Packet, unit_at, same_unit-true, Target, Msg, Note, is_there, Network}
+use Rattle.nf_net.proofs.Words.{IsWorld, queue_at, at, Each, firsts, nil_right, same_of, none_in, IsSys, AtEnd, OpenShare, moves_of, EndsAll, At_share}
+use Rattle.nf_net.proofs.Words.{ShareRests, end_all, Node, Switch, packet_numbered, arrivals_in, is_loose, is_of, arrived_of, processed_of, is_sys, target_node}
+use Rattle.nf_net.proofs.Words.{Given, Label, GenuinePacket, S, A, came_by, Joined, done_same, same_times, given, genuine, silent_total, Unit, flow_of, split}
+use Rattle.nf_net.proofs.Words.{Setting}
 use Rattle.actor_net.proofs.WeightLaws as weights
 use Rattle.proof_machines.proofs.unit.Stages as stages
 use Rattle.proof_machines.proofs.whole.EndAll.{As_moves}

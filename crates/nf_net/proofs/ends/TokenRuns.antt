@@ -1,11 +1,11 @@
 -- In every run each open copy and share has on the links what it waits for: so where no message is on a link no copy is open, and each share is idle.
 use Rattle.nf_net.proofs.Words.{◌≡◌, ◌≢◌, ℕ, zero, suc, ◌+◌, ◌<◌, ◌≤◌, true, false, Option, Some, None, List, [], ◌∷◌, length, get_or, refl, sym, ap, ◌∙◌}
-use Rattle.nf_net.proofs.Words.{subst, arith, ◌&&◌, ◌==◌, nat_lt, nat_cmp, nat_tests, Decides-ltb, Chunk, Fits, FunctionLaws, Semantics, IsTally, Msg}
-use Rattle.nf_net.proofs.Words.{Note, instance_node, CopyPhase, SharePhase, Operation, Move, Copy, Share, ControllerState, controller_step, opened_controller}
-use Rattle.nf_net.proofs.Words.{switch_step, instance_step, Choice, Network, reaches, world_next, queue_at, at, opening_on_links, Taking, Takes}
-use Rattle.nf_net.proofs.Words.{taken_outcome, OnLinks, EachSent, on_links_after, Each, each-append, each_map, Node, Controller, node_step}
-use Rattle.nf_net.proofs.Words.{node_ready, first_instance, first_instances, first_nodes, is_uncopied, TurnSo, Given, Label, Joined, node_of, its_takes}
-use Rattle.nf_net.proofs.Words.{its_label, Runs, given, all_fit, count_at_start, Instance, split, Setting, start, IsCourse, world_of}
+use Rattle.nf_net.proofs.Words.{subst, arith, ◌&&◌, ◌==◌, nat_lt, nat_cmp, nat_tests, Decides-ltb, Chunk, Fits, FunctionLaws, Semantics, IsTally, Msg, Note}
+use Rattle.nf_net.proofs.Words.{instance_node, CopyPhase, SharePhase, Operation, Move, Copy, Share, ControllerState, controller_step, opened_controller}
+use Rattle.nf_net.proofs.Words.{switch_step, instance_step, Choice, Network, reaches, world_next, queue_at, at, opening_on_links, Taking, Takes, taken_outcome}
+use Rattle.nf_net.proofs.Words.{OnLinks, EachSent, on_links_after, Each, each-append, each_map, Node, Controller, node_step, node_ready, first_instance}
+use Rattle.nf_net.proofs.Words.{first_instances, first_nodes, is_uncopied, TurnSo, Given, Label, Joined, node_of, its_takes, its_label, Runs, given, all_fit}
+use Rattle.nf_net.proofs.Words.{count_at_start, Instance, split, Setting, start, IsCourse, world_of}
 use Rattle.std.proofs.Common.{replicate, slice_index}
 use Rattle.std.specs.FinMap as finite
 use Rattle.std.proofs.lemmas.List.{length-replicate}

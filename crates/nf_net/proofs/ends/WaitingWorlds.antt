@@ -1,8 +1,8 @@
 -- Where no message is on a link no command waits for its answer at the switch: each that was taken is answered.
 use Rattle.nf_net.proofs.Words.{◌≡◌, ℕ, suc, ◌+◌, ◌<◌, ◌≤◌, true, false, Option, Some, None, List, [], ◌∷◌, ◌++◌, map, length, length-append, refl, sym, ap}
-use Rattle.nf_net.proofs.Words.{◌∙◌, subst, arith, if◌then◌else◌, ◌&&◌, ◌==◌, is_some, nat_tests, Command, Msg, Note, Operation, Share, Network}
-use Rattle.nf_net.proofs.Words.{IsWorld, queue_at, at, weigh, weigh-append, total, Each, each_map, Node, Switch, is_begun, has_answered, is_share}
-use Rattle.nf_net.proofs.Words.{keeps_off, answers_of, IsRising, is_item, commands, all_each, Given, Label, Joined, given, silent_total, Setting}
+use Rattle.nf_net.proofs.Words.{◌∙◌, subst, arith, if◌then◌else◌, ◌&&◌, ◌==◌, is_some, nat_tests, Command, Msg, Note, Operation, Share, Network, IsWorld}
+use Rattle.nf_net.proofs.Words.{queue_at, at, weigh, weigh-append, total, Each, each_map, Node, Switch, is_begun, has_answered, is_share, keeps_off, answers_of}
+use Rattle.nf_net.proofs.Words.{IsRising, is_item, commands, all_each, Given, Label, Joined, given, silent_total, Setting}
 use Rattle.std.specs.FinMap as finite
 use Rattle.net_world.specs.Log as log
 use Rattle.nf_net.proofs.RunWords.{answering, is_noted, Busy, keeps_is, told_is, flag}

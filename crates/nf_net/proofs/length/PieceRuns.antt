@@ -1,8 +1,8 @@
 -- The moves of a run send few pieces: each command streams at most once, and then at most the chunks of as many units as there are packets.
 use Rattle.nf_net.proofs.Words.{◌≡◌, ℕ, zero, suc, ◌+◌, ◌*◌, ◌<◌, ◌≤◌, true, false, List, [], ◌∷◌, ◌++◌, length, refl, arith, ◌/◌, Global, mul-suc, Filter}
-use Rattle.nf_net.proofs.Words.{Semantics, Msg, Note, Choice, Network, Stepped, IsRun, run, world_next, at, Takes, weigh, total, total_after}
-use Rattle.nf_net.proofs.Words.{nodes_after, pieces, selected_chunks, Config, Node, Controller, is_item, commands, node_step, node_ready, started_with}
-use Rattle.nf_net.proofs.Words.{all_each, Each, Given, Joined, node_of, given, pieces_among, pieces_sent, most_pieces, Setting, start}
+use Rattle.nf_net.proofs.Words.{Semantics, Msg, Note, Choice, Network, Stepped, IsRun, run, world_next, at, Takes, weigh, total, total_after, nodes_after}
+use Rattle.nf_net.proofs.Words.{pieces, selected_chunks, Config, Node, Controller, is_item, commands, node_step, node_ready, started_with, all_each, Each}
+use Rattle.nf_net.proofs.Words.{Given, Joined, node_of, given, pieces_among, pieces_sent, most_pieces, Setting, start}
 use Rattle.std.proofs.Math.Nat.{mul_comm}
 use Rattle.actor_net.proofs.WeightLaws.{log_after}
 use Rattle.instance_worker.proofs.PieceLemmas.{few_selected}

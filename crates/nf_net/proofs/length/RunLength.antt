@@ -1,8 +1,8 @@
 -- No run has more choices than its instances, its packets, the lines of its script and the pieces of its moves allow.
 use Rattle.nf_net.proofs.Words.{◌≡◌, ℕ, zero, suc, ◌+◌, ◌*◌, ◌≤◌, true, false, Some, List, [], ◌∷◌, ◌++◌, length, length-append, refl, ap, ◌∙◌, arith, ◌-◌}
-use Rattle.nf_net.proofs.Words.{slice_get, Global, mul-suc, Decides-eqb, slice_get-get_or, Semantics, Msg, Note, Choice, Network, queue_at}
-use Rattle.nf_net.proofs.Words.{run, world_next, weigh, Config, Node, is_item, node_step, started_with, all_each, Each, node_of, given}
-use Rattle.nf_net.proofs.Words.{lines, pieces_among, pieces_sent, most_choices, Setting, start, IsCourse, world_of}
+use Rattle.nf_net.proofs.Words.{slice_get, Global, mul-suc, Decides-eqb, slice_get-get_or, Semantics, Msg, Note, Choice, Network, queue_at, run, world_next}
+use Rattle.nf_net.proofs.Words.{weigh, Config, Node, is_item, node_step, started_with, all_each, Each, node_of, given, lines, pieces_among, pieces_sent}
+use Rattle.nf_net.proofs.Words.{most_choices, Setting, start, IsCourse, world_of}
 use Rattle.net_world.specs.Input.{packets}
 use Rattle.net_world.specs.Length.{ends, has_end, pieces_of}
 use Rattle.nf_net.proofs.length.MapWeights.{empty_weighs}

@@ -1,6 +1,6 @@
 -- A run of a short input has fewer choices than a schedule may take.
-use Rattle.nf_net.proofs.Words.{ℕ, ◌+◌, ◌*◌, ◌<◌, ◌≤◌, List, [], ◌∷◌, length, arith, ◌/◌, Msg, Choice, MOST_CHOICES}
-use Rattle.nf_net.proofs.Words.{commands, lines, pieces_sent, most_pieces, most_choices, IsShort, Setting, start, IsCourse}
+use Rattle.nf_net.proofs.Words.{ℕ, ◌+◌, ◌*◌, ◌<◌, ◌≤◌, List, [], ◌∷◌, length, arith, ◌/◌, Msg, Choice, MOST_CHOICES, commands, lines, pieces_sent, most_pieces}
+use Rattle.nf_net.proofs.Words.{most_choices, IsShort, Setting, start, IsCourse}
 use Rattle.std.proofs.Math.Nat.{mul-le-mul, div-le_of_le-mul}
 use Rattle.net_world.specs.Input.{packets}
 use Rattle.nf_net.proofs.length.PieceRuns.{pieces_few}

@@ -2,17 +2,16 @@
 use Rattle.nf_net.proofs.Words.{◌≡◌, ℕ, Bool, true, false, Option, Some, None, List, [], ◌∷◌, ◌++◌, append-nil, refl, sym, ap, ◌∙◌, if◌then◌else◌, ◌==◌, ◌&&◌}
 use Rattle.nf_net.proofs.Words.{◌||◌, is_some, option_map, option_to_list, cons_option, filter_map, flat_map, map-append, list_any-append, list_any, or-false}
 use Rattle.nf_net.proofs.Words.{Semantics, same_unit, is_among, spelled, Command, Order, Msg, At_a, At_b, Carry, Event, Fence_to, Install, Stray, records_on}
-use Rattle.nf_net.proofs.Words.{record_at, M_stream, M_fenced, M_install, M_fence_to, Frame, where_true, sends_to, add, Mv, seen, MoveAsked, Seeing, frame, Any}
-use Rattle.nf_net.proofs.Words.{New, WantShare, S_asked, S_shared, olds, OpenShare, chunks_in, given_in, removed_by, spelled_of, want_of, asked_of}
-use Rattle.nf_net.proofs.Words.{want_share_of, Given, place, S, shown, Label, FromController, ToController, Unit, Mark, Target, split}
+use Rattle.nf_net.proofs.Words.{record_at, MoveMsg, Frame, where_true, sends_to, add, Of_move, seen, MoveAsked, Seeing, frame, Any, New, ShareAsked, ShareMsg}
+use Rattle.nf_net.proofs.Words.{olds, OpenShare, chunks_in, given_in, removed_by, spelled_of, want_of, asked_of, want_share_of, Given, place, S, shown, Label}
+use Rattle.nf_net.proofs.Words.{FromController, ToController, Unit, Mark, Target, split}
 use Rattle.actor_net.proofs.WeightLaws.{Each}
 use Rattle.proof_machines.proofs.unit.Machine.{Where, Item, Pass, Fence, Enable, Stream, Delete, Put, Restore, Enabled, Piece, Deleted, Put_ok, Put_no}
 use Rattle.proof_machines.proofs.unit.Machine.{Restored, Fenced, Forward}
 use Rattle.proof_machines.proofs.unit.Kept.{record_in}
 use Rattle.proof_machines.proofs.unit.ToRemove.{gives, deletes}
 use Rattle.proof_machines.proofs.unit.Labels as labels
-use Rattle.proof_machines.proofs.unit.Real.{M_enable, M_delete, M_put, M_restore, M_enabled, M_event, M_piece, M_deleted, M_put_ok, M_put_no, M_restored}
-use Rattle.proof_machines.proofs.unit.Real.{M_forward, see}
+use Rattle.proof_machines.proofs.unit.Real.{see}
 use Rattle.proof_machines.proofs.net.Net as net
 use Rattle.proof_machines.proofs.net.Net.{In_packet, Asked, Carry_on, Pass_on, Fence_on}
 use Rattle.proof_machines.proofs.net.Holding as holding
@@ -65,11 +64,11 @@ module _ {R : Type 0} (f : Semantics R) (g : Given) (z : Seeing) (es : List Open
   brought o = reading (option_to_list o) false false
 
   abbrev read_msg : net.Msg R → Reading R
-  read_msg (Mv x (M_piece n p)) = reading (option_to_list (record_at u p.chunks)) (is_some (record_at u p.chunks)) false
-  read_msg (Mv x (M_put n p first)) = brought (record_at u p.chunks)
-  read_msg (Mv x (M_restore n cs)) = brought (record_at u cs)
-  read_msg (Mv x (M_put_no n why cs)) = brought (record_at u cs)
-  read_msg (Mv x (M_delete n us)) = reading [] false (is_among us u)
+  read_msg (Of_move x (MoveMsg.Piece n p)) = reading (option_to_list (record_at u p.chunks)) (is_some (record_at u p.chunks)) false
+  read_msg (Of_move x (MoveMsg.Put n p first)) = brought (record_at u p.chunks)
+  read_msg (Of_move x (MoveMsg.Restore n cs)) = brought (record_at u cs)
+  read_msg (Of_move x (MoveMsg.Put_no n why cs)) = brought (record_at u cs)
+  read_msg (Of_move x (MoveMsg.Delete n us)) = reading [] false (is_among us u)
   read_msg m = nothing
 
   abbrev read_shown : Option (Any R) → Reading R
@@ -89,29 +88,29 @@ module _ {R : Type 0} (f : Semantics R) (g : Given) (z : Seeing) (es : List Open
   seen_read i (Carry_on p) l = bare (its.mine p) (Carry p) refl
   seen_read i (Pass_on p) l = bare (its.mine p) (Pass p) refl
   seen_read i (Fence_on n) l = bare (n == its.move) Fence refl
-  seen_read i (Mv x (M_piece n p)) l =
+  seen_read i (Of_move x (MoveMsg.Piece n p)) l =
       let whole : (o : Option R) → reading (cons_option o []) (is_some o || false) false ≡ reading (option_to_list o) (is_some o) false = λ o.
       elim o as (λ v. reading (cons_option v []) (is_some v || false) false ≡ reading (option_to_list v) (is_some v) false)
       [ None ↦ refl | Some r ↦ refl ] in
-      by_test (n == its.move) (Piece (see its p)) (read_msg (Mv x (M_piece n p))) (whole (record_at u p.chunks))
+      by_test (n == its.move) (Piece (see its p)) (read_msg (Of_move x (MoveMsg.Piece n p))) (whole (record_at u p.chunks))
       (λ off. ap (λ o. reading (option_to_list o) (is_some o) false) (sym (l.1 off)))
-  seen_read i (Mv x (M_put n p first)) l = own_brought (n == its.move) (Put (see its p) first) (record_at u p.chunks) refl l.1
-  seen_read i (Mv x (M_restore n cs)) l = own_brought (n == its.move) (Restore (record_at u cs)) (record_at u cs) refl l.1
-  seen_read i (Mv x (M_put_no n why cs)) l = own_brought (n == its.move) (Put_no why (record_at u cs)) (record_at u cs) refl l.1
-  seen_read i (Mv x (M_delete n us)) l = by_test (n == its.move) (Delete (is_among us u)) (read_msg (Mv x (M_delete n us)))
+  seen_read i (Of_move x (MoveMsg.Put n p first)) l = own_brought (n == its.move) (Put (see its p) first) (record_at u p.chunks) refl l.1
+  seen_read i (Of_move x (MoveMsg.Restore n cs)) l = own_brought (n == its.move) (Restore (record_at u cs)) (record_at u cs) refl l.1
+  seen_read i (Of_move x (MoveMsg.Put_no n why cs)) l = own_brought (n == its.move) (Put_no why (record_at u cs)) (record_at u cs) refl l.1
+  seen_read i (Of_move x (MoveMsg.Delete n us)) l = by_test (n == its.move) (Delete (is_among us u)) (read_msg (Of_move x (MoveMsg.Delete n us)))
       (ap (reading [] false) (sym (sym (or-false (is_among us u))))) (λ off. ap (reading [] false) (sym (l.1 off)))
-  seen_read i (Mv x (M_enable n k)) l = bare (n == its.move) (Enable k) refl
-  seen_read i (Mv x (M_stream n)) l = bare (n == its.move) Stream refl
-  seen_read i (Mv x (M_enabled n)) l = bare (n == its.move) Enabled refl
-  seen_read i (Mv x (M_event n p)) l = bare (its.mine p) (Event p) refl
-  seen_read i (Mv x (M_deleted n)) l = bare (n == its.move) Deleted refl
-  seen_read i (Mv x (M_put_ok n)) l = bare (n == its.move) Put_ok refl
-  seen_read i (Mv x (M_restored n)) l = bare (n == its.move) Restored refl
-  seen_read i (Mv x (M_fenced n)) l = bare (n == its.move) Fenced refl
-  seen_read i (Mv x (M_forward p to)) l = bare (its.mine p) (sends_to its to (λ w. Forward w p)) (sent_bare its to (λ w. Forward w p) (λ w. refl))
-  seen_read i (Mv x (M_install n from to)) l = bare (n == its.move) (if (from == its.from) && (to == its.to) then Install else Stray)
+  seen_read i (Of_move x (MoveMsg.Enable n k)) l = bare (n == its.move) (Enable k) refl
+  seen_read i (Of_move x (MoveMsg.Stream n)) l = bare (n == its.move) Stream refl
+  seen_read i (Of_move x (MoveMsg.Enabled n)) l = bare (n == its.move) Enabled refl
+  seen_read i (Of_move x (MoveMsg.Event n p)) l = bare (its.mine p) (Event p) refl
+  seen_read i (Of_move x (MoveMsg.Deleted n)) l = bare (n == its.move) Deleted refl
+  seen_read i (Of_move x (MoveMsg.Put_ok n)) l = bare (n == its.move) Put_ok refl
+  seen_read i (Of_move x (MoveMsg.Restored n)) l = bare (n == its.move) Restored refl
+  seen_read i (Of_move x (MoveMsg.Fenced n)) l = bare (n == its.move) Fenced refl
+  seen_read i (Of_move x (MoveMsg.Forward p to)) l = bare (its.mine p) (sends_to its to (λ w. Forward w p)) (sent_bare its to (λ w. Forward w p) (λ w. refl))
+  seen_read i (Of_move x (MoveMsg.Install n from to)) l = bare (n == its.move) (if (from == its.from) && (to == its.to) then Install else Stray)
       (elim ((from == its.from) && (to == its.to)) as (λ b. read {R = R} ((if b then Install else Stray) ∷ []) ≡ nothing) [ true ↦ refl | false ↦ refl ])
-  seen_read i (Mv x (M_fence_to n to)) l = bare (n == its.move) (sends_to its to (λ w. Fence_to w)) (sent_bare its to (λ w. Fence_to w) (λ w. refl))
+  seen_read i (Of_move x (MoveMsg.Fence_to n to)) l = bare (n == its.move) (sends_to its to (λ w. Fence_to w)) (sent_bare its to (λ w. Fence_to w) (λ w. refl))
 
   -- and what the message itself has
   record Spells (m : Msg) (v : Reading R) : Type 0 where
@@ -128,7 +127,7 @@ module _ {R : Type 0} (f : Semantics R) (g : Given) (z : Seeing) (es : List Open
   asked_spells k (Order.Copy src dst filter) = record { chunks = refl; given = refl; removed = refl }
   asked_spells k (Order.Share members filter) = by_want (want_share_of (place g) k.op (Order.Share members filter))
     where
-      by_want : (o : Option WantShare) → Spells (Msg.Asked k) (read_shown (option_map (λ want. New (S_asked want)) o))
+      by_want : (o : Option ShareAsked) → Spells (Msg.Asked k) (read_shown (option_map (λ want. New (ShareMsg.Asked want)) o))
       by_want None = record { chunks = refl; given = refl; removed = refl }
       by_want (Some x) = record { chunks = refl; given = refl; removed = refl }
 
@@ -141,7 +140,7 @@ module _ {R : Type 0} (f : Semantics R) (g : Given) (z : Seeing) (es : List Open
   msg_spells s r (Msg.Asked c) l = asked_spells c c.what
   msg_spells s r (Msg.Shared op chunk) l = by_entry (spelled f chunk)
     where
-      by_entry : (o : Option (Unit × R)) → Spells (Msg.Shared op chunk) (read_shown (option_map (λ entry. New (S_shared op entry)) o))
+      by_entry : (o : Option (Unit × R)) → Spells (Msg.Shared op chunk) (read_shown (option_map (λ entry. New (ShareMsg.Shared op entry)) o))
       by_entry None = record { chunks = refl; given = refl; removed = refl }
       by_entry (Some x) = record { chunks = refl; given = refl; removed = refl }
   msg_spells s r (Msg.Carry Mark.Plain cell) l = record { chunks = refl; given = refl; removed = refl }

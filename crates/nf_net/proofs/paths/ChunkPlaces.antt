@@ -2,17 +2,17 @@
 -- move, or among the pieces that the controller keeps.
 use Rattle.nf_net.proofs.Words.{◌≡◌, ◌≢◌, ℕ, zero, suc, ◌<◌, ◌≤◌, true, false, Option, Some, None, List, [], ◌∷◌, ◌++◌, map, get_or, refl, sym, ap, ◌∙◌, subst}
 use Rattle.nf_net.proofs.Words.{arith, if◌then◌else◌, ◌==◌, ◌&&◌, nat_lt, flat_map, ltb-false, nat_tests, Decides-eqb, Decides-ltb, map-append, Semantics}
-use Rattle.nf_net.proofs.Words.{stored_of, Piece, Door, Phase, Operation, Move, Copy, Share, on_link, State, records, records_on, Each, each_map}
-use Rattle.nf_net.proofs.Words.{expect, is_over, Op, Frame, see_phase, Open, find_op, each_found, Seeing, frame, OpLabel, olds, Node, Switch, on_links}
-use Rattle.nf_net.proofs.Words.{chunks_in, kept_in, kept_for, kept_by, spelled_of, Sees, but_shares, outline_phase, outline_piece, is_sys, given, Given, place}
-use Rattle.nf_net.proofs.Words.{S, AreGoodChunks, IsGoodPiece, HasPieces, node_of, FromController, ToController, Unit, split}
+use Rattle.nf_net.proofs.Words.{stored_of, Piece, Door, Phase, Operation, Move, Copy, Share, on_link, State, records, records_on, Each, each_map, expect}
+use Rattle.nf_net.proofs.Words.{is_over, Op, Frame, see_phase, Open, find_op, each_found, Seeing, frame, OpLabel, olds, Node, Switch, on_links, chunks_in}
+use Rattle.nf_net.proofs.Words.{kept_in, kept_for, kept_by, spelled_of, Sees, but_shares, outline_phase, outline_piece, is_sys, given, Given, place, S}
+use Rattle.nf_net.proofs.Words.{AreGoodChunks, IsGoodPiece, HasPieces, node_of, FromController, ToController, Unit, split}
 use Rattle.std.specs.FinMap as finite
 use Rattle.move_op.specs.Phases as phase
 use Rattle.move_op.specs.Move.{chunks_of}
 use Rattle.proof_machines.proofs.unit.Machine as machine
 use Rattle.proof_machines.proofs.unit.Kept.{on_way}
 use Rattle.proof_machines.proofs.unit.Labels.{Without, Clean}
-use Rattle.proof_machines.proofs.unit.Real.{RPiece, RPhase, see}
+use Rattle.proof_machines.proofs.unit.Real.{MovePiece, MovePhase, see}
 use Rattle.move_op.specs.Phases.{Streaming}
 use Rattle.proof_machines.proofs.net.Holding.{Label, IsController}
 use Rattle.proof_machines.proofs.net.Units.{see as seeing}
@@ -43,25 +43,25 @@ module _ {R : Type 0} (f : Semantics R) (g : Given) (v : Frame) where
   -- these pieces spell what the unit sees of them
   pub phase_spelled : (p : Phase) → HasPieces f g p → spelled_of f u (kept_in p) ≡ as_spelled u (kept_records (see_phase v (outline_phase f (place g) p)))
   phase_spelled (phase.Streaming frozen free came d) h =
-      let fz = records (map (see v) (map (outline_piece f) frozen)) in
-      let fr = records (map (see v) (map (outline_piece f) free)) in
+      let to_remove = records (map (see v) (map (outline_piece f) frozen)) in
+      let removed = records (map (see v) (map (outline_piece f) free)) in
       spelled-append f u (chunks_of frozen) (chunks_of free)
       ∙ ap (λ xs. xs ++ spelled_of f u (chunks_of free)) (pieces_spelled f g u v refl frozen (good_pieces f g frozen h.0))
-      ∙ ap (λ xs. as_spelled u fz ++ xs) (pieces_spelled f g u v refl free (free_pieces f g d free h.1))
-      ∙ sym (map-append (λ r. Some (u, r)) fz fr)
+      ∙ ap (λ xs. as_spelled u to_remove ++ xs) (pieces_spelled f g u v refl free (free_pieces f g d free h.1))
+      ∙ sym (map-append (λ r. Some (u, r)) to_remove removed)
   phase_spelled p h = refl
 
   -- those of another move have nothing of it
-  none_in : (ps : List (RPiece R)) → Each (Without u) ps → records (map (see v) ps) ≡ []
+  none_in : (ps : List (MovePiece R)) → Each (Without u) ps → records (map (see v) ps) ≡ []
   none_in [] h = refl
   none_in (p ∷ ps) h = let own = h.0 in let rest = none_in ps h.1 in rw (own, rest) refl
 
-  pub none_kept : (ph : RPhase R) → Clean u ph → kept_records (see_phase v ph) ≡ []
-  none_kept (Streaming fz fr came d) h = let a = none_in fz h.0 in let b = none_in fr h.1 in rw (a, b) refl
+  pub none_kept : (ph : MovePhase R) → Clean u ph → kept_records (see_phase v ph) ≡ []
+  none_kept (Streaming to_remove removed came d) h = let a = none_in to_remove h.0 in let b = none_in removed h.1 in rw (a, b) refl
   none_kept ph h = refl
 
 over_keeps : {R : Type 0} (ph : machine.Phase R) → is_over ph ≡ true → kept_records ph ≡ []
-over_keeps (machine.Streaming fz fr came d) e = cc
+over_keeps (machine.Streaming to_remove removed came d) e = cc
 over_keeps ph e = refl
 
 module _ {F R : Type 0} (here : Reached F R) (u : Unit) (apart : IsApart here u) (op : Op) (third : ℕ) (x : State R)

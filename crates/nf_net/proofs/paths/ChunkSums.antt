@@ -72,29 +72,29 @@ module _ {R : Type 0} (x : State R) where
   module _ (r : R) where
     by_free : records_on x.ac ≡ [] → frozen_in x.phase ≡ [] → records_on x.bc ≡ [] → records_on x.cb ≡ [] → Split r (free_in x.phase) (records_on x.ca)
         → IsAt x r
-    by_free ac fz bc cb (In_left free ca) = In_store (ap (λ v. v ++ free_in x.phase) fz ∙ free) ac bc ca cb
-    by_free ac fz bc cb (In_right free ca) = To_a ca ac bc cb (both_nil (frozen_in x.phase) (free_in x.phase) fz free)
+    by_free ac to_remove bc cb (In_left free ca) = In_store (ap (λ v. v ++ free_in x.phase) to_remove ∙ free) ac bc ca cb
+    by_free ac to_remove bc cb (In_right free ca) = To_a ca ac bc cb (both_nil (frozen_in x.phase) (free_in x.phase) to_remove free)
 
     by_puts : records_on x.ac ≡ [] → frozen_in x.phase ≡ [] → records_on x.bc ≡ [] → Split r (records_on x.cb) from_free → IsAt x r
-    by_puts ac fz bc (In_left cb none) = To_b cb ac bc (nil_right (free_in x.phase) (records_on x.ca) none)
-        (both_nil (frozen_in x.phase) (free_in x.phase) fz (nil_left (free_in x.phase) (records_on x.ca) none))
-    by_puts ac fz bc (In_right cb some) = by_free ac fz bc cb (split r (free_in x.phase) (records_on x.ca) some)
+    by_puts ac to_remove bc (In_left cb none) = To_b cb ac bc (nil_right (free_in x.phase) (records_on x.ca) none)
+        (both_nil (frozen_in x.phase) (free_in x.phase) to_remove (nil_left (free_in x.phase) (records_on x.ca) none))
+    by_puts ac to_remove bc (In_right cb some) = by_free ac to_remove bc cb (split r (free_in x.phase) (records_on x.ca) some)
 
     by_answers : records_on x.ac ≡ [] → frozen_in x.phase ≡ [] → Split r (records_on x.bc) from_puts → IsAt x r
-    by_answers ac fz (In_left bc none) =
+    by_answers ac to_remove (In_left bc none) =
         let after_puts : from_free ≡ [] = nil_right (records_on x.cb) from_free none in
         From_b bc ac (nil_right (free_in x.phase) (records_on x.ca) after_puts) (nil_left (records_on x.cb) from_free none)
-        (both_nil (frozen_in x.phase) (free_in x.phase) fz (nil_left (free_in x.phase) (records_on x.ca) after_puts))
-    by_answers ac fz (In_right bc some) = by_puts ac fz bc (split r (records_on x.cb) from_free some)
+        (both_nil (frozen_in x.phase) (free_in x.phase) to_remove (nil_left (free_in x.phase) (records_on x.ca) after_puts))
+    by_answers ac to_remove (In_right bc some) = by_puts ac to_remove bc (split r (records_on x.cb) from_free some)
 
     by_frozen : records_on x.ac ≡ [] → Split r (frozen_in x.phase) from_answers → IsAt x r
-    by_frozen ac (In_left fz none) =
+    by_frozen ac (In_left to_remove none) =
         let after_answers : from_puts ≡ [] = nil_right (records_on x.bc) from_puts none in
         let after_puts : from_free ≡ [] = nil_right (records_on x.cb) from_free after_answers in
         let free : free_in x.phase ≡ [] = nil_left (free_in x.phase) (records_on x.ca) after_puts in
-        In_store (ap (λ v. frozen_in x.phase ++ v) free ∙ append-nil (frozen_in x.phase) ∙ fz) ac (nil_left (records_on x.bc) from_puts none)
+        In_store (ap (λ v. frozen_in x.phase ++ v) free ∙ append-nil (frozen_in x.phase) ∙ to_remove) ac (nil_left (records_on x.bc) from_puts none)
         (nil_right (free_in x.phase) (records_on x.ca) after_puts) (nil_left (records_on x.cb) from_free after_answers)
-    by_frozen ac (In_right fz some) = by_answers ac fz (split r (records_on x.bc) from_puts some)
+    by_frozen ac (In_right to_remove some) = by_answers ac to_remove (split r (records_on x.bc) from_puts some)
 
     by_pieces : Split r (records_on x.ac) from_frozen → IsAt x r
     by_pieces (In_left ac none) =

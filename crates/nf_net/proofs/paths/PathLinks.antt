@@ -3,9 +3,9 @@
 use Rattle.nf_net.proofs.Words.{◌≡◌, ℕ, Bool, true, false, Option, Some, None, List, [], ◌∷◌, ◌++◌, refl, sym, ap, ◌∙◌, filter-append, if◌then◌else◌, ◌==◌}
 use Rattle.nf_net.proofs.Words.{◌&&◌, option_map, cons_option, filter, filter_map, flat_map, Chunk, Semantics, spelled, FullCell, Mark, Target, Filter, Command}
 use Rattle.nf_net.proofs.Words.{Order, Msg, instance_node, Carry, Event, Fence_to, Install, Stray, At_a, At_b, Frame, where_true, sends_to, add, passes_in}
-use Rattle.nf_net.proofs.Words.{events_in, for_switch, list_all, seen, MoveAsked, Seeing, frame, Any, New, WantShare, S_asked, S_shared, EachNew, olds}
-use Rattle.nf_net.proofs.Words.{OpenShare, NoShare, and_parts, passed_in, carried_in, forwarded_in, handed_over_in, diverted_in, number, want_of, asked_of}
-use Rattle.nf_net.proofs.Words.{want_share_of, Given, place, S, shown, Label, FromSwitch, ToSwitch, ToController, Unit, split}
+use Rattle.nf_net.proofs.Words.{events_in, for_switch, list_all, seen, MoveAsked, Seeing, frame, Any, New, ShareAsked, ShareMsg, EachNew, olds, OpenShare}
+use Rattle.nf_net.proofs.Words.{NoShare, and_parts, passed_in, carried_in, forwarded_in, handed_over_in, diverted_in, number, want_of, asked_of, want_share_of}
+use Rattle.nf_net.proofs.Words.{Given, place, S, shown, Label, FromSwitch, ToSwitch, ToController, Unit, split}
 use Rattle.proof_machines.proofs.unit.Machine.{Item, Pass, Forward}
 use Rattle.std.proofs.lemmas.List.Elements.{filter_map-append}
 use Rattle.actor_net.proofs.WeightLaws.{Each}
@@ -122,14 +122,14 @@ module _ {R : Type 0} (f : Semantics R) (g : Given) (z : Seeing) (es : List Open
   asked_read k (Order.Copy src dst filter) = quiet refl refl
   asked_read k (Order.Share members filter) = by_want (want_share_of (place g) k.op (Order.Share members filter))
     where
-      by_want : (o : Option WantShare) → IsRead (Msg.Asked k) (see_of (option_map (λ want. New (S_asked want)) o))
+      by_want : (o : Option ShareAsked) → IsRead (Msg.Asked k) (see_of (option_map (λ want. New (ShareMsg.Asked want)) o))
       by_want None = quiet refl refl
       by_want (Some x) = quiet refl refl
 
   chunk_read : (op : ℕ) (chunk : Chunk) → IsRead (Msg.Shared op chunk) (see_of (shown f g (Msg.Shared op chunk)))
   chunk_read op chunk = by_entry (spelled f chunk)
     where
-      by_entry : (o : Option (Unit × R)) → IsRead (Msg.Shared op chunk) (see_of (option_map (λ entry. New (S_shared op entry)) o))
+      by_entry : (o : Option (Unit × R)) → IsRead (Msg.Shared op chunk) (see_of (option_map (λ entry. New (ShareMsg.Shared op entry)) o))
       by_entry None = quiet refl refl
       by_entry (Some x) = quiet refl refl
 

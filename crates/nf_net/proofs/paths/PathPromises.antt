@@ -1,8 +1,8 @@
 -- In every run what came of a unit is what was processed and what is under way, and nothing stands in two places.
 use Rattle.nf_net.proofs.Words.{◌≡◌, ℕ, suc, ◌+◌, ◌<◌, ◌≤◌, Bool, true, false, List, [], ◌∷◌, ◌++◌, map, refl, sym, ap, ◌∙◌, subst, arith, if◌then◌else◌, ◌==◌}
-use Rattle.nf_net.proofs.Words.{nat_tests, Decides-eqb, Msg, Note, Network, same_of, IsOrderedAs, exactly, not_both, WhereAll, Apart_from_shares}
-use Rattle.nf_net.proofs.Words.{Under_share, Node, IsRising, arrivals_in, is_loose, IsFront, arrived_of, processed_of, in_flight_of, is_sys}
-use Rattle.nf_net.proofs.Words.{Given, S, A, came_by, same_times, given, Unit, split, Setting}
+use Rattle.nf_net.proofs.Words.{nat_tests, Decides-eqb, Msg, Note, Network, same_of, IsOrderedAs, exactly, not_both, WhereAll, Apart_from_shares, Under_share}
+use Rattle.nf_net.proofs.Words.{Node, IsRising, arrivals_in, is_loose, IsFront, arrived_of, processed_of, in_flight_of, is_sys, Given, S, A, came_by}
+use Rattle.nf_net.proofs.Words.{same_times, given, Unit, split, Setting}
 use Rattle.net_world.specs.Input.{packets}
 use Rattle.net_world.specs.Fold.{times}
 use Rattle.net_world.proofs.NumberCounts.{times-append}

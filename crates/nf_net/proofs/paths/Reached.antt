@@ -1,7 +1,7 @@
 -- A world of a run as the lemmas on the path of a unit take it: its nodes are there, and a whole world of the abstract network shows it.
-use Rattle.nf_net.proofs.Words.{◌≡◌, ℕ, ◌+◌, List, length, refl, Msg, Note, Choice, Network, IsWorld, run_world, State, Op, WantShare, moves_of}
-use Rattle.nf_net.proofs.Words.{Under, seeing, Where, Untaken, Node, node_step, node_ready, is_loose, arrived_of, is_sys, Given, S, A, Joined}
-use Rattle.nf_net.proofs.Words.{run_beside, start_world, given, count_at_start, Unit, Setting, start, IsCourse, world_of}
+use Rattle.nf_net.proofs.Words.{◌≡◌, ℕ, ◌+◌, List, length, refl, Msg, Note, Choice, Network, IsWorld, run_world, State, Op, ShareAsked, moves_of, Under, seeing}
+use Rattle.nf_net.proofs.Words.{Where, Untaken, Node, node_step, node_ready, is_loose, arrived_of, is_sys, Given, S, A, Joined, run_beside, start_world, given}
+use Rattle.nf_net.proofs.Words.{count_at_start, Unit, Setting, start, IsCourse, world_of}
 use Rattle.proof_machines.proofs.net.Holding.{Holds}
 use Rattle.proof_machines.proofs.net.Units.{see}
 use Rattle.nf_net.proofs.paths.SharedOwners.{HomesOwn}
@@ -35,7 +35,7 @@ module _ {F R : Type 0} (here : Reached F R) where
   HoldsAt u op third x = Holds (S f g) (see (S f g) (is_sys f g.site g.packet) u op third) (moves_of (S f g) (A f g) j.world) x
 
   -- or a share has it
-  abbrev pub IsUnder : Unit → WantShare → List ℕ → List ℕ → Type 0
+  abbrev pub IsUnder : Unit → ShareAsked → List ℕ → List ℕ → Type 0
   IsUnder u x before since = Under (S f g) (A f g) (seeing (S f g) (A f g) u x) j.world before since
 
   -- whose home owns it

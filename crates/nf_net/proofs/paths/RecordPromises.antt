@@ -1,9 +1,9 @@
 -- The live record of a unit that no share has is the fold of what was processed of it, and it stands at one instance.
 use Rattle.nf_net.proofs.Words.{◌≡◌, ℕ, zero, suc, ◌<◌, ◌≤◌, Option, Some, None, List, [], ◌∷◌, ◌++◌, length, refl, sym, ap, ◌∙◌, arith, if◌then◌else◌, ◌==◌}
-use Rattle.nf_net.proofs.Words.{slice_get, option_to_list, Decides-eqb, slice_get_within, get_or_from_slice_get, Msg, Note, instance_node, Network}
-use Rattle.nf_net.proofs.Words.{State, idle, Kept, Sys, World, Seeing, node_at, done_u, moves_of, Where, Node, Switch, Controller, is_loose}
-use Rattle.nf_net.proofs.Words.{arrived_of, live_in, live_at, is_sys, given, Given, WhereAll, Apart_from_shares, Under_share, S, A, came_by, node_of, Joined}
-use Rattle.nf_net.proofs.Words.{Unit, Instance, split, either_way, Setting}
+use Rattle.nf_net.proofs.Words.{slice_get, option_to_list, Decides-eqb, slice_get_within, get_or_from_slice_get, Msg, Note, instance_node, Network, State, idle}
+use Rattle.nf_net.proofs.Words.{Kept, Sys, World, Seeing, node_at, done_u, moves_of, Where, Node, Switch, Controller, is_loose, arrived_of, live_in, live_at}
+use Rattle.nf_net.proofs.Words.{is_sys, given, Given, WhereAll, Apart_from_shares, Under_share, S, A, came_by, node_of, Joined, Unit, Instance, split}
+use Rattle.nf_net.proofs.Words.{either_way, Setting}
 use Rattle.std.specs.FinMap as finite
 use Rattle.proof_machines.proofs.unit.Kept.{Kept.Nowhere, Kept.Is_live, Kept.On_way, Kept.Twice, lives, on_way}
 use Rattle.proof_machines.proofs.net.Readings.{fold, RecordOf, record_of}

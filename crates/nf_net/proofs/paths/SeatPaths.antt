@@ -2,10 +2,10 @@
 use Rattle.nf_net.proofs.Words.{◌≡◌, ◌≢◌, ℕ, ◌<◌, ◌≤◌, Bool, true, false, List, [], ◌∷◌, ◌++◌, map, length, refl, sym, ap, ◌∙◌, subst, append_assoc, append-nil}
 use Rattle.nf_net.proofs.Words.{arith, if◌then◌else◌, ◌==◌, ◌&&◌, ◌-◌, nat_lt, slice_get, filter, flat_map, ltb-false, nat_tests, Decides-ltb, slice_get_past}
 use Rattle.nf_net.proofs.Words.{filter-append, Packet, unit_at, same_unit-true, Target, is_there, instance_node, State, idle, nil_right, Each, firsts, same_of}
-use Rattle.nf_net.proofs.Words.{passes_in, events_in, expect, seat_shape, seat_all, seat_path, none_in, Seeing, node_at, side_place, seat_parts}
-use Rattle.nf_net.proofs.Words.{where_two, moves_of, packet_numbered, arrivals_in, installs_in, all_but, passed_in, forwarded_in, handed_over_in, diverted_in}
-use Rattle.nf_net.proofs.Words.{stored_by, queued_by, on_links, owner, is_loose, IsFront, is_of, arrived_of, processed_of, in_flight_of, unit_fits, target_node}
-use Rattle.nf_net.proofs.Words.{is_sys, unit_is_fit, Given, GenuinePacket, S, A, done_same, given, genuine, Unit, flow_of, split}
+use Rattle.nf_net.proofs.Words.{passes_in, events_in, expect, seat_shape, seat_all, seat_path, none_in, Seeing, node_at, side_place, seat_parts, where_two}
+use Rattle.nf_net.proofs.Words.{moves_of, packet_numbered, arrivals_in, installs_in, all_but, passed_in, forwarded_in, handed_over_in, diverted_in, stored_by}
+use Rattle.nf_net.proofs.Words.{queued_by, on_links, owner, is_loose, IsFront, is_of, arrived_of, processed_of, in_flight_of, unit_fits, target_node, is_sys}
+use Rattle.nf_net.proofs.Words.{unit_is_fit, Given, GenuinePacket, S, A, done_same, given, genuine, Unit, flow_of, split}
 use Rattle.std.specs.Prelude.{None}
 use Rattle.proof_machines.proofs.unit.Stages as stages
 use Rattle.proof_machines.proofs.unit.Path.{carries, forwards, places}

@@ -3,16 +3,16 @@
 use Rattle.nf_net.proofs.Words.{◌≡◌, ◌≢◌, ℕ, zero, suc, ◌<◌, Bool, true, false, Option, Some, None, List, [], ◌∷◌, ◌++◌, map, refl, sym, ap, ◌∙◌, subst, arith}
 use Rattle.nf_net.proofs.Words.{if◌then◌else◌, ◌==◌, ◌&&◌, ◌||◌, is_some, option_map, option_to_list, filter_map, flat_map, list_any-append, or_right, or_left}
 use Rattle.nf_net.proofs.Words.{RealChunk, Semantics, same_unit, is_among, stored_of, Order, Msg, units_in, Operation, Move, Copy, Share, on_link, EachOn}
-use Rattle.nf_net.proofs.Words.{Frame, record_at, where_true, add, M_fenced, M_install, M_fence_to, see_phase, View, Open, MoveAsked, find_op, each_found}
-use Rattle.nf_net.proofs.Words.{frame, RestOp, share_seen, share_expect, Any, New, WantShare, ShareMsg, Shared_on, S_asked, S_install, S_sync, S_shared}
-use Rattle.nf_net.proofs.Words.{SeeingShare, seeing, Node, Switch, on_links, chunks_in, kept_for, kept_by, spelled_of, Sees, units_same, entries, want_of}
-use Rattle.nf_net.proofs.Words.{but_shares, asked_of, want_share_of, Given, place, S, A, shown, Label, node_of, given, Unit, Mark, Target}
+use Rattle.nf_net.proofs.Words.{Frame, record_at, where_true, add, MoveMsg, see_phase, View, Open, MoveAsked, find_op, each_found, frame, RestOp, share_seen}
+use Rattle.nf_net.proofs.Words.{share_expect, Any, New, ShareAsked, ShareMsg, Shared_on, SeeingShare, seeing, Node, Switch, on_links, chunks_in, kept_for}
+use Rattle.nf_net.proofs.Words.{kept_by, spelled_of, Sees, units_same, entries, want_of, but_shares, asked_of, want_share_of, Given, place, S, A, shown, Label}
+use Rattle.nf_net.proofs.Words.{node_of, given, Unit, Mark, Target}
 use Rattle.std.specs.FinMap as finite
 use Rattle.proof_machines.proofs.unit.Real.{chunk_unit}
 use Rattle.proof_machines.proofs.share.Share.{Item, Item.Carry, Item.Fence, Item.Shared, Item.Diverted, Item.Install, Item.Forward, Item.Get, Item.Sync}
 use Rattle.proof_machines.proofs.share.Share.{Item.Fenced, Item.Chunks, Item.Chunk, Item.Synced, Item.Stray}
 use Rattle.proof_machines.proofs.net.Net as net
-use Rattle.proof_machines.proofs.net.Shares.{Old, Diverted_on, S_forward, S_get, S_chunks, S_synced}
+use Rattle.proof_machines.proofs.net.Shares.{Old, Diverted_on}
 use Rattle.net_world.specs.Records as records
 use Rattle.nf_net.proofs.paths.ChunkLemmas.{as_spelled, spelled-append, spelled-all, good_spelled, good_units}
 use Rattle.nf_net.proofs.paths.ChunkPlaces.{phase_spelled, none_kept}
@@ -40,8 +40,8 @@ module _ {R : Type 0} (f : Semantics R) (g : Given) (z : SeeingShare) where
 
   -- What is seen as a record: one that a member gives, or one to take.
   pub data IsSource (a : Any R) (it : Item R) : Type 0 where
-    Gives : (n : ℕ) (entry : Unit × R) → a ≡ New (S_shared n entry) → it ≡ Chunk (record_at u (entry ∷ [])) → IsSource a it
-    Takes : (n : ℕ) (home : Bool) (cs : List (Unit × R)) → a ≡ New (S_sync n home cs) → it ≡ Sync (record_at u cs) → IsSource a it
+    Gives : (n : ℕ) (entry : Unit × R) → a ≡ New (ShareMsg.Shared n entry) → it ≡ Chunk (record_at u (entry ∷ [])) → IsSource a it
+    Takes : (n : ℕ) (home : Bool) (cs : List (Unit × R)) → a ≡ New (ShareMsg.Sync n home cs) → it ≡ Sync (record_at u cs) → IsSource a it
 
   abbrev is_record : Item R → Bool
   is_record (Chunk o) = true
@@ -68,10 +68,10 @@ module _ {R : Type 0} (f : Semantics R) (g : Given) (z : SeeingShare) where
   old_source r (net.Carry_on p) it on e = unlike _ (Carry p) it (other (Carry p) it refl on) e
   old_source r (net.Pass_on p) it on e = unlike _ Stray it (other Stray it refl on) e
   old_source r (net.Fence_on n) it on e = unlike _ Fence it (other Fence it refl on) e
-  old_source r (net.Mv h (M_fenced n)) it on e = unlike _ Fenced it (other Fenced it refl on) e
-  old_source r (net.Mv h (M_install n from to)) it on e = unlike _ Stray it (other Stray it refl on) e
-  old_source r (net.Mv h (M_fence_to n to)) it on e = unlike _ Stray it (other Stray it refl on) e
-  old_source r (net.Mv h m) it on e = cc
+  old_source r (net.Of_move h (MoveMsg.Fenced n)) it on e = unlike _ Fenced it (other Fenced it refl on) e
+  old_source r (net.Of_move h (MoveMsg.Install n from to)) it on e = unlike _ Stray it (other Stray it refl on) e
+  old_source r (net.Of_move h (MoveMsg.Fence_to n to)) it on e = unlike _ Stray it (other Stray it refl on) e
+  old_source r (net.Of_move h m) it on e = cc
   old_source r (net.In_packet p) it on e = cc
   old_source r (net.Asked x) it on e = cc
 
@@ -80,19 +80,19 @@ module _ {R : Type 0} (f : Semantics R) (g : Given) (z : SeeingShare) where
   source r (New (Shared_on n home p)) it on e =
       numbered _ _ _ it (λ q. unfit _ (Shared p) it (other (Shared p) it refl on) (other Stray it refl on) q) (other Stray it refl on) e
   source r (New (Diverted_on p)) it on e = numbered _ _ (Diverted p) it (other (Diverted p) it refl on) (other Stray it refl on) e
-  source r (New (S_asked x)) it on e = cc
-  source r (New (S_install n h from)) it on e = unlike _ _ it (λ q. unfit _ Install it (other Install it refl on) (other Stray it refl on) q) e
-  source r (New (S_forward n home p to)) it on e =
+  source r (New (ShareMsg.Asked x)) it on e = cc
+  source r (New (ShareMsg.Install n h from)) it on e = unlike _ _ it (λ q. unfit _ Install it (other Install it refl on) (other Stray it refl on) q) e
+  source r (New (ShareMsg.Forward n home p to)) it on e =
       numbered _ _ _ it (λ q. unfit _ (Forward p to) it (other (Forward p to) it refl on) (other Stray it refl on) q) (other Stray it refl on) e
-  source r (New (S_get n h)) it on e = unlike _ Get it (other Get it refl on) e
-  source r (New (S_sync n home cs)) it on e =
+  source r (New (ShareMsg.Get n h)) it on e = unlike _ Get it (other Get it refl on) e
+  source r (New (ShareMsg.Sync n home cs)) it on e =
       unlike _ _ it (λ q. unfit _ (Sync (record_at u cs)) it (λ t. Takes n home cs refl (sym t)) (other Stray it refl on) q) e
-  source r (New (S_chunks n cs)) it on e = unlike _ (Chunks (record_at u cs)) it (other (Chunks (record_at u cs)) it refl on) e
-  source r (New (S_shared n entry)) it on e = unlike _ (Chunk (record_at u (entry ∷ []))) it (λ q. Gives n entry refl (sym q)) e
-  source r (New (S_synced n)) it on e = unlike _ Synced it (other Synced it refl on) e
+  source r (New (ShareMsg.Chunks n cs)) it on e = unlike _ (Chunks (record_at u cs)) it (other (Chunks (record_at u cs)) it refl on) e
+  source r (New (ShareMsg.Shared n entry)) it on e = unlike _ (Chunk (record_at u (entry ∷ []))) it (λ q. Gives n entry refl (sym q)) e
+  source r (New (ShareMsg.Synced n)) it on e = unlike _ Synced it (other Synced it refl on) e
 
   -- The messages that are seen so.
-  asked_none : (op : ℕ) (what : Order) (a : ShareMsg R) (kept : (want : WantShare) → New a ≡ New (S_asked want) → ⊥)
+  asked_none : (op : ℕ) (what : Order) (a : ShareMsg R) (kept : (want : ShareAsked) → New a ≡ New (ShareMsg.Asked want) → ⊥)
       → asked_of f (place g) op what ≡ Some (New a) → ⊥
   asked_none op (Order.Move src dst filter keep) a kept e = by_want (want_of (place g) op (Order.Move src dst filter keep)) e
     where
@@ -102,16 +102,16 @@ module _ {R : Type 0} (f : Semantics R) (g : Given) (z : SeeingShare) where
   asked_none op (Order.Copy src dst filter) a kept e = cc
   asked_none op (Order.Share members filter) a kept e = by_want (want_share_of (place g) op (Order.Share members filter)) e
     where
-      by_want : (o : Option WantShare) → option_map (λ want. New (S_asked want)) o ≡ Some (New a) → ⊥
+      by_want : (o : Option ShareAsked) → option_map (λ want. New (ShareMsg.Asked want)) o ≡ Some (New a) → ⊥
       by_want None q = cc
-      by_want (Some x) q = kept x (let same_message : New (S_asked x) ≡ New a = cc in sym same_message)
+      by_want (Some x) q = kept x (let same_message : New (ShareMsg.Asked x) ≡ New a = cc in sym same_message)
 
-  real_gives : (s r : ℕ) (m : Msg) → Label f g s r m → (n : ℕ) (entry : Unit × R) (kept : R) → shown f g m ≡ Some (New (S_shared n entry))
+  real_gives : (s r : ℕ) (m : Msg) → Label f g s r m → (n : ℕ) (entry : Unit × R) (kept : R) → shown f g m ≡ Some (New (ShareMsg.Shared n entry))
       → record_at u (entry ∷ []) ≡ Some kept → is_among (records.shared_in m) u ≡ true
   real_gives s r (Msg.Shared op chunk) l n entry kept e own =
       let good = l.1.chunk in
-      let seen : shown f g (Msg.Shared op chunk) ≡ Some (New (S_shared op good.entry)) = ap (option_map (λ y. New (S_shared op y))) good.spells in
-      let both : Some (New (S_shared op good.entry)) ≡ Some (New (S_shared n entry)) = sym seen ∙ e in
+      let seen : shown f g (Msg.Shared op chunk) ≡ Some (New (ShareMsg.Shared op good.entry)) = ap (option_map (λ y. New (ShareMsg.Shared op y))) good.spells in
+      let both : Some (New (ShareMsg.Shared op good.entry)) ≡ Some (New (ShareMsg.Shared n entry)) = sym seen ∙ e in
       let same_entry : good.entry ≡ entry = cc in
       let spells = good.spells in
       let all : entries f (chunk ∷ []) ≡ good.entry ∷ [] = rw spells refl in
@@ -122,7 +122,7 @@ module _ {R : Type 0} (f : Semantics R) (g : Given) (z : SeeingShare) where
       by_test : (b : Bool) → (if b then Some entry.1 else None) ≡ Some kept → b || false ≡ true
       by_test true q = refl
       by_test false q = cc
-  real_gives s r (Msg.Asked c) l n entry kept e own = absurd (asked_none c.op c.what (S_shared n entry) (λ want q. cc) e)
+  real_gives s r (Msg.Asked c) l n entry kept e own = absurd (asked_none c.op c.what (ShareMsg.Shared n entry) (λ want q. cc) e)
   real_gives s r (Msg.Carry Mark.Plain cell) l n entry kept e own = cc
   real_gives s r (Msg.Carry (Mark.Pass op) cell) l n entry kept e own = cc
   real_gives s r (Msg.Carry (Mark.Shared op home) cell) l n entry kept e own = cc
@@ -134,15 +134,16 @@ module _ {R : Type 0} (f : Semantics R) (g : Given) (z : SeeingShare) where
   real_gives s r m l n entry kept e own = cc
 
   real_takes : (s r : ℕ) (m : Msg) → Label f g s r m → (n : ℕ) (home : Bool) (cs : List (Unit × R)) (kept : R)
-      → shown f g m ≡ Some (New (S_sync n home cs)) → record_at u cs ≡ Some kept → is_among (records.synced_in m) u ≡ true
+      → shown f g m ≡ Some (New (ShareMsg.Sync n home cs)) → record_at u cs ≡ Some kept → is_among (records.synced_in m) u ≡ true
   real_takes s r (Msg.Sync home op chunks) l n flag cs kept e own =
       let same_chunks : entries f chunks ≡ cs = cc in
       good_units f g u chunks l.1 ∙ ap is_some (ap (record_at u) same_chunks ∙ own)
   real_takes s r (Msg.Shared op chunk) l n flag cs kept e own =
-      let seen : shown f g (Msg.Shared op chunk) ≡ Some (New (S_shared op l.1.chunk.entry)) = ap (option_map (λ y. New (S_shared op y))) l.1.chunk.spells in
-      let both : Some (New (S_shared op l.1.chunk.entry)) ≡ Some (New (S_sync n flag cs)) = sym seen ∙ e in
+      let seen : shown f g (Msg.Shared op chunk) ≡ Some (New (ShareMsg.Shared op l.1.chunk.entry)) =
+          ap (option_map (λ y. New (ShareMsg.Shared op y))) l.1.chunk.spells in
+      let both : Some (New (ShareMsg.Shared op l.1.chunk.entry)) ≡ Some (New (ShareMsg.Sync n flag cs)) = sym seen ∙ e in
       cc
-  real_takes s r (Msg.Asked c) l n flag cs kept e own = absurd (asked_none c.op c.what (S_sync n flag cs) (λ want q. cc) e)
+  real_takes s r (Msg.Asked c) l n flag cs kept e own = absurd (asked_none c.op c.what (ShareMsg.Sync n flag cs) (λ want q. cc) e)
   real_takes s r (Msg.Carry Mark.Plain cell) l n flag cs kept e own = cc
   real_takes s r (Msg.Carry (Mark.Pass op) cell) l n flag cs kept e own = cc
   real_takes s r (Msg.Carry (Mark.Shared op home) cell) l n flag cs kept e own = cc
@@ -184,7 +185,7 @@ module _ {R : Type 0} (f : Semantics R) (g : Given) (z : SeeingShare) where
   tells_taken s r kept m l a is (Takes n home cs same own) = real_takes s r m l n home cs kept (is ∙ ap Some same) cc
 
 -- In a world.
-module _ {F R : Type 0} (here : Reached F R) (u : Unit) (x : WantShare) (before since : List ℕ) (k : IsUnder here u x before since) where
+module _ {F R : Type 0} (here : Reached F R) (u : Unit) (x : ShareAsked) (before since : List ℕ) (k : IsUnder here u x before since) where
   open here use {setting, n, count, w, nodes, j, world}
   open setting use {function as f}
 
@@ -242,9 +243,10 @@ module _ {F R : Type 0} (here : Reached F R) (u : Unit) (x : WantShare) (before 
   move_keeps q e found (Some (Share s)) there h = absurd h
   move_keeps q e found (Some (Move m)) there h =
       let its = (each_found (RestOp (S f g) u) q j.world.ops e k.ops found).0 in
-      let fr : Frame = frame (S f g) (record { unit = u; op = e.op; third = 0 }) in
-      phase_spelled f g fr m.phase (j.shown_is.controller.moves q m there).pieces ∙ ap (λ p. as_spelled u (kept_records (see_phase fr p))) (sym h.phase)
-      ∙ ap (as_spelled u) (none_kept f g fr e.phase its.1.0)
+      let own_frame : Frame = frame (S f g) (record { unit = u; op = e.op; third = 0 }) in
+      phase_spelled f g own_frame m.phase (j.shown_is.controller.moves q m there).pieces
+          ∙ ap (λ p. as_spelled u (kept_records (see_phase own_frame p))) (sym h.phase)
+      ∙ ap (as_spelled u) (none_kept f g own_frame e.phase its.1.0)
 
   none_keeps : (q : ℕ) (o : Option Operation) → Sees f (place g) None (but_shares o) (stored_of j.nodes.controller.store q) → kept_at o ≡ []
   none_keeps q None h = refl

@@ -3,9 +3,9 @@
 use Rattle.nf_net.proofs.Words.{◌≡◌, ℕ, Bool, true, false, Option, Some, None, List, [], ◌∷◌, ◌++◌, refl, sym, ap, ◌∙◌, append-nil, filter-append}
 use Rattle.nf_net.proofs.Words.{if◌then◌else◌, ◌==◌, option_map, cons_option, filter, filter_map, flat_map, Filter, RealChunk, Semantics, spelled}
 use Rattle.nf_net.proofs.Words.{same_unit-true, FullCell, Target, Command, Order, Msg, instance_node, record_at, where_true, add, UnitShare, forwarded}
-use Rattle.nf_net.proofs.Words.{diverted, MoveAsked, NothingOf, ShareLabel, unit_share, share_seen, share_items, Any, New, WantShare, S_asked, S_shared}
-use Rattle.nf_net.proofs.Words.{EachNew, olds, same, SeeingShare, passed_in, carried_in, handed_over_in, number, entries, want_of, asked_of, want_share_of}
-use Rattle.nf_net.proofs.Words.{Given, place, S, A, shown, Label, Unit, Mark, split}
+use Rattle.nf_net.proofs.Words.{diverted, MoveAsked, NothingOf, ShareLabel, unit_share, share_seen, share_items, Any, New, ShareAsked, ShareMsg, EachNew, olds}
+use Rattle.nf_net.proofs.Words.{same, SeeingShare, passed_in, carried_in, handed_over_in, number, entries, want_of, asked_of, want_share_of, Given, place, S, A}
+use Rattle.nf_net.proofs.Words.{shown, Label, Unit, Mark, split}
 use Rattle.actor_net.proofs.WeightLaws.{Each}
 use Rattle.proof_machines.proofs.unit.Labels as labels
 use Rattle.proof_machines.proofs.share.Share.{Item, Item.Carry, Item.Fence, Item.Shared, Item.Diverted, Item.Install, Item.Forward, Item.Get, Item.Sync}
@@ -148,14 +148,14 @@ module _ {R : Type 0} (f : Semantics R) (g : Given) (z : SeeingShare) where
     asked_read k r (Order.Copy src dst filter) = refl
     asked_read k r (Order.Share members filter) = by_want (want_share_of (place g) k.op (Order.Share members filter))
       where
-        by_want : (o : Option WantShare) → IsRead (Msg.Asked k) (item_of r (option_map (λ want. New (S_asked want)) o))
+        by_want : (o : Option ShareAsked) → IsRead (Msg.Asked k) (item_of r (option_map (λ want. New (ShareMsg.Asked want)) o))
         by_want None = refl
         by_want (Some x) = refl
 
     chunk_read : (op r : ℕ) (chunk : RealChunk) → IsRead (Msg.Shared op chunk) (item_of r (shown f g (Msg.Shared op chunk)))
     chunk_read op r chunk = by_entry (spelled f chunk)
       where
-        by_entry : (o : Option (Unit × R)) → IsRead (Msg.Shared op chunk) (item_of r (option_map (λ entry. New (S_shared op entry)) o))
+        by_entry : (o : Option (Unit × R)) → IsRead (Msg.Shared op chunk) (item_of r (option_map (λ entry. New (ShareMsg.Shared op entry)) o))
         by_entry None = refl
         by_entry (Some x) = bare (op == z.num) (Chunk (record_at z.unit (x ∷ []))) refl
 

@@ -1,7 +1,7 @@
 -- The members of an open share are among the nodes, and a share that a unit is under, as the controller has it. And what is told
 -- of the log: the home of such a share owns the unit.
 use Rattle.nf_net.proofs.Words.{◌≡◌, ℕ, ◌+◌, ◌<◌, true, Some, List, [], ◌∷◌, map, length, sym, ap, ◌∙◌, arith, if◌then◌else◌, ◌==◌, nat_lt, Decides-eqb}
-use Rattle.nf_net.proofs.Words.{Decides-ltb, Msg, Note, instance_node, Network, Each, View, has, shape, unit_share, as_share, WantShare, OpenShare, find_share}
+use Rattle.nf_net.proofs.Words.{Decides-ltb, Msg, Note, instance_node, Network, Each, View, has, shape, unit_share, as_share, ShareAsked, OpenShare, find_share}
 use Rattle.nf_net.proofs.Words.{SeeingShare, Under, seeing, Node, owner, real_share, RealShare, Given, place, S, A, Joined, given, Unit, split, Setting}
 
 -- members of a share are instances that are there
@@ -27,7 +27,7 @@ module _ {F R : Type 0} (setting : Setting F R) (n : ℕ) (count : n ≡ length 
       let low : k < length c.names + 2 = few_nodes (length c.names) r.s.plan.members few k (ap (λ y. has y.members k) (sym r.sees.is) ∙ inside) in
       omega (arith, low, count)
 
-  module _ (u : Unit) (x : WantShare) (before since : List ℕ) (k : Under (S f g) (A f g) (seeing (S f g) (A f g) u x) j.world before since) where
+  module _ (u : Unit) (x : ShareAsked) (before since : List ℕ) (k : Under (S f g) (A f g) (seeing (S f g) (A f g) u x) j.world before since) where
     abbrev z : SeeingShare
     z = seeing (S f g) (A f g) u x
 
@@ -43,5 +43,5 @@ module _ {F R : Type 0} (setting : Setting F R) (n : ℕ) (count : n ≡ length 
 
   -- the home of the share that a unit is under owns it, by the log
   abbrev pub HomesOwn : Type 0
-  HomesOwn = (u : Unit) (x : WantShare) (before since : List ℕ) → Under (S f g) (A f g) (seeing (S f g) (A f g) u x) j.world before since
+  HomesOwn = (u : Unit) (x : ShareAsked) (before since : List ℕ) → Under (S f g) (A f g) (seeing (S f g) (A f g) u x) j.world before since
       → instance_node (owner c items u w.log) ≡ x.home

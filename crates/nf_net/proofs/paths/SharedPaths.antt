@@ -1,6 +1,6 @@
 -- What is under way of a unit under a share is what waits at its stage, in the order of the stage.
 use Rattle.nf_net.proofs.Words.{◌≡◌, ℕ, ◌<◌, Bool, List, [], ◌++◌, length, refl, sym, ap, ◌∙◌, subst, arith, filter, flat_map, instance_node, done_u, as_share}
-use Rattle.nf_net.proofs.Words.{WantShare, seeing, all_but, passed_in, forwarded_in, handed_over_in, diverted_in, stored_by, queued_by, on_links, owner}
+use Rattle.nf_net.proofs.Words.{ShareAsked, seeing, all_but, passed_in, forwarded_in, handed_over_in, diverted_in, stored_by, queued_by, on_links, owner}
 use Rattle.nf_net.proofs.Words.{processed_of, in_flight_of, Given, S, A, done_same, given, Unit}
 use Rattle.proof_machines.proofs.share.Stages.{path as stage_path}
 use Rattle.proof_machines.proofs.share.Path.{carries}
@@ -8,9 +8,9 @@ use Rattle.proof_machines.proofs.net.UnderReadings.{under_order}
 use Rattle.net_world.specs.Path.{at_instance}
 use Rattle.nf_net.proofs.RunWords.{those-but, but_none, members_few, Reached, IsUnder, HomesTold}
 use Rattle.nf_net.proofs.paths.SeatPaths.{those-places}
-use Rattle.nf_net.proofs.paths.SharedPlaces.{fr, v, its_places, passed_are, forwards_are, diverts_are, events_are, store_is, queue_is, stands_is}
+use Rattle.nf_net.proofs.paths.SharedPlaces.{own_share, v, its_places, passed_are, forwards_are, diverts_are, events_are, store_is, queue_is, stands_is}
 
-module _ {F R : Type 0} (here : Reached F R) (told : HomesTold here) (u : Unit) (x : WantShare) (before since : List ℕ)
+module _ {F R : Type 0} (here : Reached F R) (told : HomesTold here) (u : Unit) (x : ShareAsked) (before since : List ℕ)
     (k : IsUnder here u x before since) where
   open here use {setting, n, count, w, j}
   open setting use {function as f, config as c, items}
@@ -19,7 +19,7 @@ module _ {F R : Type 0} (here : Reached F R) (told : HomesTold here) (u : Unit) 
   g = given setting
 
   abbrev mine : ℕ → Bool
-  mine = (fr here u x before since k).mine
+  mine = (own_share here u x before since k).mine
 
   abbrev i0 : ℕ
   i0 = owner c items u w.log
@@ -51,7 +51,7 @@ module _ {F R : Type 0} (here : Reached F R) (told : HomesTold here) (u : Unit) 
       → a ++ (b ++ (q ++ (r ++ (s ++ (t ++ (o ++ p)))))) ≡ a' ++ (b' ++ (t' ++ (o' ++ p')))
   joined_so a b q r s t o p a' b' t' o' p' ha hb hq hr hs ht ho hp = rw (ha, hb, hq, hr, hs, ht, ho, hp) refl
 
-  path_is : in_flight_of f c items u w ≡ stage_path (fr here u x before since k) k.stage
+  path_is : in_flight_of f c items u w ≡ stage_path (own_share here u x before since k) k.stage
   path_is =
       those-places mine (on_links w passed_in) (on_links w forwarded_in) (flat_map stored_by w.nodes) (on_links w handed_over_in)
       (all_but i0 (at_instance w) (length c.names)) (at_instance w i0) (flat_map queued_by w.nodes) (on_links w diverted_in)

@@ -2,7 +2,7 @@
 use Rattle.nf_net.proofs.Words.{◌≡◌, ℕ, ◌<◌, ◌≤◌, Bool, true, false, Option, Some, None, List, [], ◌∷◌, ◌++◌, refl, sym, ap, ◌∙◌, subst, arith, if◌then◌else◌}
 use Rattle.nf_net.proofs.Words.{◌==◌, ◌&&◌, nat_lt, slice_get, filter, filter_map, flat_map, nat_tests, filter-append, FullCell, Operation, Move, Copy, Share}
 use Rattle.nf_net.proofs.Words.{on_link, Each, UnitShare, View, mine_in, shape, OfShare, Open, find_op, RestRule, NothingOf, none_mine, ShareLabel, label_of}
-use Rattle.nf_net.proofs.Words.{unit_share, share_expect, share_items, as_share, WantShare, OpenShare, EachNew, olds, SeeingShare, seeing, lasts, passed_in}
+use Rattle.nf_net.proofs.Words.{unit_share, share_expect, share_items, as_share, ShareAsked, OpenShare, EachNew, olds, SeeingShare, seeing, lasts, passed_in}
 use Rattle.nf_net.proofs.Words.{carried_in, forwarded_in, handed_over_in, diverted_in, stored_by, queued_by, held_by, on_links, Sees, but_shares, both, Given}
 use Rattle.nf_net.proofs.Words.{place, S, A, shown, given, Unit, either_way, split}
 use Rattle.proof_machines.proofs.share.Path.{carries, shared_in, forwarded as forwards, diverted as diverts}
@@ -19,7 +19,7 @@ use Rattle.nf_net.proofs.paths.SharedLinks.{AreKnown, AreRead, are_read}
 use Rattle.nf_net.proofs.paths.SharedOwners.{real, members_few}
 use Rattle.nf_net.proofs.paths.SharedStages.{Places, places}
 
-module _ {F R : Type 0} (here : Reached F R) (u : Unit) (x : WantShare) (before since : List ℕ) (k : IsUnder here u x before since) where
+module _ {F R : Type 0} (here : Reached F R) (u : Unit) (x : ShareAsked) (before since : List ℕ) (k : IsUnder here u x before since) where
   open here use {setting, n, count, w, nodes, j, world}
   open setting use {function as f}
 
@@ -29,14 +29,14 @@ module _ {F R : Type 0} (here : Reached F R) (u : Unit) (x : WantShare) (before 
   abbrev pub z : SeeingShare
   z = seeing (S f g) (A f g) u x
 
-  abbrev pub fr : UnitShare R
-  fr = unit_share (S f g) (A f g) z
+  abbrev pub own_share : UnitShare R
+  own_share = unit_share (S f g) (A f g) z
 
   abbrev pub v : View R
-  v = shape fr k.stage
+  v = shape own_share k.stage
 
   abbrev mine : ℕ → Bool
-  mine = fr.mine
+  mine = own_share.mine
 
   -- Links.
   pub link_known : (s r : ℕ) → s < n → r < n → (s == 0) && (r == 0) ≡ false → AreKnown f g z k.covered s r (filter_map (shown f g) (on_link w s r))
@@ -70,14 +70,14 @@ module _ {F R : Type 0} (here : Reached F R) (u : Unit) (x : WantShare) (before 
         let off_1 : (i == 1) ≡ false = grind (arith, nat_tests, two) in
         subst (AreRead f g z k.covered (on_link w 0 i)) (let at : share_expect v 0 i ≡ v.sw i = rw off_1 refl in at) (link_read 0 i zero few off_0)
 
-  pub its_places : Places fr k.stage
-  its_places = places fr k.is k.stage
+  pub its_places : Places own_share k.stage
+  its_places = places own_share k.is k.stage
 
   at_few : its_places.at < n
   at_few = members_few setting n count w j (as_share (S f g) (A f g) z v.phase v.queue) k.holds.share its_places.at its_places.inside
 
   -- the share's packet on its way to a member
-  pub passed_are : filter mine (on_links w passed_in) ≡ shared_in fr (v.sw its_places.at)
+  pub passed_are : filter mine (on_links w passed_in) ≡ shared_in own_share (v.sw its_places.at)
   passed_are =
       those-all mine (flat_map passed_in) w.links
       ∙ one_link w world.square (λ ms. filter mine (flat_map passed_in ms)) 0 its_places.at (rw nodes zero) (rw nodes at_few)
@@ -95,14 +95,14 @@ module _ {F R : Type 0} (here : Reached F R) (u : Unit) (x : WantShare) (before 
           let on : (a == 0) && nat_lt 1 b ≡ true = grind (arith, nat_tests, from, high) in let never : true ≡ false = sym on ∙ out in cc)))
 
   -- packets on their way by the switch, and those that are diverted
-  pub forwards_are : filter mine (on_links w forwarded_in) ≡ forwards fr v.cs
+  pub forwards_are : filter mine (on_links w forwarded_in) ≡ forwards own_share v.cs
   forwards_are =
       those-all mine (flat_map forwarded_in) w.links
       ∙ one_link w world.square (λ ms. filter mine (flat_map forwarded_in ms)) 1 0 (rw nodes one) (rw nodes zero)
       (λ a b ha hb off. forwarded_else here mine a b (rw (← nodes) ha) (rw (← nodes) hb) (λ h. off h.0 h.1))
       ∙ (link_read 1 0 one zero refl).forward
 
-  pub diverts_are : filter mine (on_links w diverted_in) ≡ diverts fr v.sc
+  pub diverts_are : filter mine (on_links w diverted_in) ≡ diverts own_share v.sc
   diverts_are =
       those-all mine (flat_map diverted_in) w.links
       ∙ one_link w world.square (λ ms. filter mine (flat_map diverted_in ms)) 0 1 (rw nodes zero) (rw nodes one)
@@ -143,9 +143,9 @@ module _ {F R : Type 0} (here : Reached F R) (u : Unit) (x : WantShare) (before 
   store_is = stored_for here mine 0 (λ q off. other_store q) ∙ other_store 0
 
   -- What waits for shares waits for its own.
-  those_in : (ps : List ℕ) → filter mine ps ≡ mine_in fr ps
+  those_in : (ps : List ℕ) → filter mine ps ≡ mine_in own_share ps
   those_in [] = refl
-  those_in (p ∷ ps) = split (mine p) (λ b. (if b then p ∷ filter mine ps else filter mine ps) ≡ (if b then p ∷ [] else []) ++ mine_in fr ps)
+  those_in (p ∷ ps) = split (mine p) (λ b. (if b then p ∷ filter mine ps else filter mine ps) ≡ (if b then p ∷ [] else []) ++ mine_in own_share ps)
       (λ _. ap (λ l. p ∷ l) (those_in ps)) (λ _. those_in ps)
 
   none_those : (ps : List ℕ) → Each (λ p. mine p ≡ false) ps → filter mine ps ≡ []
@@ -162,7 +162,7 @@ module _ {F R : Type 0} (here : Reached F R) (u : Unit) (x : WantShare) (before 
       ap (filter mine) (sym queue)
       ∙ none_those b.e.queue (queue_other (S f g) (A f g) z j.world j.shown_is.every.global k.covered v.phase v.queue k.holds.share q b.e b.there off)
 
-  pub queue_is : filter mine (flat_map queued_by w.nodes) ≡ mine_in fr v.queue
+  pub queue_is : filter mine (flat_map queued_by w.nodes) ≡ mine_in own_share v.queue
   queue_is =
       let r = real setting n count w j u x before since k in
       let queue : v.queue ≡ numbers (its_cells x.num) = ap (λ y. y.queue) r.sees.is in

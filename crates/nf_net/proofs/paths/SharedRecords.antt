@@ -3,7 +3,7 @@
 use Rattle.nf_net.proofs.Words.{◌≡◌, ◌≢◌, ℕ, ◌<◌, ◌≤◌, true, false, Option, None, List, [], ◌∷◌, ◌++◌, refl, sym, ap, ◌∙◌, arith, if◌then◌else◌, ◌==◌, ◌-◌}
 use Rattle.nf_net.proofs.Words.{nat_lt, slice_get, flat_map, ltb-false, or_left, or_right, nat_tests, Decides-ltb, slice_get_past, Semantics, same_unit}
 use Rattle.nf_net.proofs.Words.{is_among, controller_node, instance_node, on_link, Ran, UnitShare, View, has, processed, shape, self, unit_share, as_share}
-use Rattle.nf_net.proofs.Words.{WantShare, SeeingShare, ran_of, seeing, packets_done, fold_packets, owner, is_of, processed_of, live_in, live_at, standby_in}
+use Rattle.nf_net.proofs.Words.{ShareAsked, SeeingShare, ran_of, seeing, packets_done, fold_packets, owner, is_of, processed_of, live_in, live_at, standby_in}
 use Rattle.nf_net.proofs.Words.{standby_at, Given, S, A, done_same, given, Unit, split}
 use Rattle.std.specs.FinMap as finite
 use Rattle.proof_machines.proofs.share.Share.{runs}
@@ -31,7 +31,7 @@ last_mine f g u (x ∷ ds) xs d e = split (same_unit ((S f g).packet_unit x.0) u
     by_front on later [] q = let same_one : x ≡ d = cc in ap (λ y. same_unit ((S f g).packet_unit y.0) u) (sym same_one) ∙ on
     by_front on later (y ∷ ys) q = let rest : ran_of (S f g) (A f g) u ds ≡ ys ++ d ∷ [] = cc in later ys rest
 
-module _ {F R : Type 0} (here : Reached F R) (told : HomesTold here) (u : Unit) (x : WantShare) (before since : List ℕ)
+module _ {F R : Type 0} (here : Reached F R) (told : HomesTold here) (u : Unit) (x : ShareAsked) (before since : List ℕ)
     (k : IsUnder here u x before since) where
   open here use {setting, n, count, w, nodes, j}
   open setting use {function as f, config as c, items}
@@ -42,11 +42,11 @@ module _ {F R : Type 0} (here : Reached F R) (told : HomesTold here) (u : Unit) 
   abbrev z : SeeingShare
   z = seeing (S f g) (A f g) u x
 
-  abbrev fr : UnitShare R
-  fr = unit_share (S f g) (A f g) z
+  abbrev own_share : UnitShare R
+  own_share = unit_share (S f g) (A f g) z
 
   abbrev v : View R
-  v = shape fr k.stage
+  v = shape own_share k.stage
 
   -- the home, by its instance
   abbrev pub i0 : ℕ
@@ -65,7 +65,7 @@ module _ {F R : Type 0} (here : Reached F R) (told : HomesTold here) (u : Unit) 
   kept_runs : (ds : List Ran) → runs (S f g).F None ds ≡ kept (packets ds)
   kept_runs ds = fold_packets (S f g).F None ds
 
-  went_is : processed_of f c items u w.log ≡ packets (processed fr k.stage)
+  went_is : processed_of f c items u w.log ≡ packets (processed own_share k.stage)
   went_is = sym (done_same setting n w j u) ∙ sym (packets_done (S f g) (A f g) u j.world.done) ∙ ap packets (all_done (S f g) (A f g) z j.world before since k)
 
   -- At an instance.
@@ -107,9 +107,9 @@ module _ {F R : Type 0} (here : Reached F R) (told : HomesTold here) (u : Unit) 
     Saw_all : live_at w i0 u ≡ kept (processed_of f c items u w.log) → HasShared
     Home_lacks_last : HomeLacksLast → HasShared
 
-  module _ (a : Ahead fr k.stage) where
+  module _ (a : Ahead own_share k.stage) where
     abbrev node : ℕ
-    node = fr.member_of a.last
+    node = own_share.member_of a.last
 
     inside : has x.members node ≡ true
     inside = k.is.member_in a.last
@@ -127,7 +127,7 @@ module _ {F R : Type 0} (here : Reached F R) (told : HomesTold here) (u : Unit) 
     apart = let off = a.away in grind (arith, nat_tests, off)
 
     -- where the record is
-    comes : Comes fr k.stage node → is_to_take w u i0 m ≡ true
+    comes : Comes own_share k.stage node → is_to_take w u i0 m ≡ true
     comes (From_member r e) =
         let low = two in
         let off_0 : (node == 0) ≡ false = grind (arith, nat_tests, low) in
@@ -161,15 +161,15 @@ module _ {F R : Type 0} (here : Reached F R) (told : HomesTold here) (u : Unit) 
       stands_by =
           let off = apart in
           ap (λ q. standby_in u (slice_get w.nodes q)) m_is ∙ standby_there node two (few node inside)
-          ∙ (rw off at (k.holds.own node inside)) ∙ a.own ∙ kept_runs (processed fr k.stage) ∙ ap kept (sym went_is);
+          ∙ (rw off at (k.holds.own node inside)) ∙ a.own ∙ kept_runs (processed own_share k.stage) ∙ ap kept (sym went_is);
       on_its_way = comes a.comes;
       its = last_mine f g u j.world.done a.seen (a.last, node) all_ran;
       diverts = a.diverts;
     }
 
   pub has_shared : HasShared
-  has_shared = by_stage (sees fr k.is k.stage k.fits)
+  has_shared = by_stage (sees own_share k.is k.stage k.fits)
     where
-      by_stage : Sees fr k.stage → HasShared
-      by_stage (Sees_all e) = Saw_all (home_live ∙ e ∙ kept_runs (processed fr k.stage) ∙ ap kept (sym went_is))
+      by_stage : Sees own_share k.stage → HasShared
+      by_stage (Sees_all e) = Saw_all (home_live ∙ e ∙ kept_runs (processed own_share k.stage) ∙ ap kept (sym went_is))
       by_stage (Is_ahead a) = Home_lacks_last (behind a)

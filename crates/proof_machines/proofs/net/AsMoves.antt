@@ -3,9 +3,8 @@
 use Rattle.proof_machines.proofs.net.Words.{◌≡◌, ℕ, Bool, true, false, Option, Some, None, List, [], ◌∷◌, ◌++◌, drop, refl, sym, ap, ◌∙◌, append-nil, arith}
 use Rattle.proof_machines.proofs.net.Words.{if◌then◌else◌, ◌&&◌, ◌==◌, option_map_or, nat_tests, sent_for, Each, EachSent, Msg, MoveAsked, Sys, process}
 use Rattle.proof_machines.proofs.net.Words.{inst_step, ctrl_step, sw_sends, begin_sends, behind, links_after, inst_next, ctrl_next, sw_next, begin_next, Any}
-use Rattle.proof_machines.proofs.net.Words.{Old, New, ShareMsg, Shared_on, S_sync, S_shared, olds, as_old, Sharing, OpenShare, Told, Is_fenced, share_row}
-use Rattle.proof_machines.proofs.net.Words.{told_by, by_share, shared_chunk, member_step, WholeWorld, moves_of, whole_inst, whole_ctrl, whole_switch}
-use Rattle.proof_machines.proofs.net.Words.{begin_move, Unit}
+use Rattle.proof_machines.proofs.net.Words.{Old, New, ShareMsg, Shared_on, olds, as_old, Sharing, OpenShare, Told, Is_fenced, share_row, told_by, by_share}
+use Rattle.proof_machines.proofs.net.Words.{shared_chunk, member_step, WholeWorld, moves_of, whole_inst, whole_ctrl, whole_switch, begin_move, Unit}
 use Rattle.proof_machines.proofs.net.Elsewhere.{Elsewhere}
 use Rattle.proof_machines.proofs.net.ShareRows.{ToldOf, SentBy, share_row_by}
 
@@ -112,15 +111,16 @@ module _ {R : Type 0} (S : Sys R) (A : Sharing S) where
       (share_row_by S A x.0 (λ _. Prim.Unit {0}) (λ _. Prim.Unit {0}) sender x.1 (any_told x.0 x.1) (all_kept x.0.queue)).1
 
   chunk_new : (n p : ℕ) (t : S.B.T) → old_sends (shared_chunk S A n p t) ≡ []
-  chunk_new n p t = elim (S.B.at (S.packet_unit p) t) as (λ o. old_sends (option_map_or (λ r. (1, New (S_shared n (S.packet_unit p, r))) ∷ []) o []) ≡ [])
+  chunk_new n p t = elim (S.B.at (S.packet_unit p) t) as (λ o. old_sends (option_map_or (λ r. (1, New (ShareMsg.Shared n (S.packet_unit p, r))) ∷ []) o [])
+      ≡ [])
       [ None ↦ refl | Some r ↦ refl ]
 
   -- and so does a member
   pub member_new : (live standby : S.B.T) (m : ShareMsg R) → old_sends (member_step S A live standby m).sends ≡ []
   member_new live standby (Shared_on n true p) = chunk_new n p (process S live p)
   member_new live standby (Shared_on n false p) = chunk_new n p (process S standby p)
-  member_new live standby (S_sync n true cs) = refl
-  member_new live standby (S_sync n false cs) = refl
+  member_new live standby (ShareMsg.Sync n true cs) = refl
+  member_new live standby (ShareMsg.Sync n false cs) = refl
   member_new live standby m = refl
 
   -- The steps, as moves see them

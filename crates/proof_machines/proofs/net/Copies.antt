@@ -1,8 +1,8 @@
 -- Of each unit at most one record is on its way with a move's pieces; what that says of the pieces that the controller keeps.
 use Rattle.proof_machines.proofs.net.Words.{◌≡◌, ℕ, ◌+◌, ◌≤◌, Bool, true, false, Some, None, List, [], ◌∷◌, map, length, refl, sym, ap, ◌∙◌, subst, arith}
 use Rattle.proof_machines.proofs.net.Words.{if◌then◌else◌, ◌&&◌, ◌==◌, is_some, option_to_list, nat_tests, Decides-eqb, Item, Put_no, State, Chunks, record_at}
-use Rattle.proof_machines.proofs.net.Words.{RPiece, RPhase, M_event, M_put_no, Frame, see, see_phase, Streaming, records, Each, Without, Clean, frozen_in}
-use Rattle.proof_machines.proofs.net.Words.{free_in, expect, seat_shape, add, filter_map, Msg, Mv, Sys, IsSys, Open, find_op, World, seen, Seeing, frame, Label}
+use Rattle.proof_machines.proofs.net.Words.{MovePiece, MovePhase, MoveMsg, Frame, see, see_phase, Streaming, records, Each, Without, Clean, frozen_in, free_in}
+use Rattle.proof_machines.proofs.net.Words.{expect, seat_shape, add, filter_map, Msg, Of_move, Sys, IsSys, Open, find_op, World, seen, Seeing, frame, Label}
 use Rattle.proof_machines.proofs.net.Words.{OpLabel, IsController, Holds, head, NothingOf, Global, same_unit, same_unit_equiv, Filter, Answer, either_way, Unit}
 use Rattle.proof_machines.proofs.unit.OneCopy.{few_records, records_head}
 use Rattle.proof_machines.proofs.net.Ctrl.{none_some, each_found}
@@ -14,11 +14,11 @@ module _ {R : Type 0} where
   has u cs = if is_some (record_at u cs) then 1 else 0
 
   -- how many pieces have one
-  abbrev pub have : Unit → List (RPiece R) → ℕ
+  abbrev pub have : Unit → List (MovePiece R) → ℕ
   have u [] = 0
   have u (p ∷ ps) = has u p.chunks + have u ps
 
-  abbrev pub copies : Unit → RPhase R → ℕ
+  abbrev pub copies : Unit → MovePhase R → ℕ
   copies u (Streaming frozen free came door) = have u frozen + have u free
   copies u ph = 0
 
@@ -26,11 +26,11 @@ module _ {R : Type 0} where
   pub has_none : (u : Unit) (cs : Chunks R) → record_at u cs ≡ None → has u cs ≡ 0
   has_none u cs e = rw e refl
 
-  have_none : (u : Unit) (ps : List (RPiece R)) → Each (Without u) ps → have u ps ≡ 0
+  have_none : (u : Unit) (ps : List (MovePiece R)) → Each (Without u) ps → have u ps ≡ 0
   have_none u [] h = refl
   have_none u (p ∷ ps) h = let a = has_none u p.chunks h.0 in let b = have_none u ps h.1 in rw (a, b) refl
 
-  pub copies_none : (u : Unit) (ph : RPhase R) → Clean u ph → copies u ph ≡ 0
+  pub copies_none : (u : Unit) (ph : MovePhase R) → Clean u ph → copies u ph ≡ 0
   copies_none u (Streaming frozen free came door) h = let a = have_none u frozen h.0 in let b = have_none u free h.1 in rw (a, b) refl
   copies_none u ph h = refl
 
@@ -38,7 +38,7 @@ module _ {R : Type 0} where
   has_own : (u : Unit) (cs : Chunks R) → has u cs ≡ length (option_to_list (record_at u cs))
   has_own u cs = elim (record_at u cs) as (λ o. (if is_some o then 1 else 0) ≡ length (option_to_list o)) [ None ↦ refl | Some r ↦ refl ]
 
-  have_own : (v : Frame) (ps : List (RPiece R)) → have v.unit ps ≡ length (records (map (see v) ps))
+  have_own : (v : Frame) (ps : List (MovePiece R)) → have v.unit ps ≡ length (records (map (see v) ps))
   have_own v [] = refl
   have_own v (p ∷ ps) = elim (record_at v.unit p.chunks) as (λ o. (if is_some o then 1 else 0) + have v.unit ps
       ≡ length (add o (records (map (see v) ps)))) [
@@ -46,7 +46,7 @@ module _ {R : Type 0} where
         | Some r ↦ (let e = have_own v ps in omega (arith, e))
       ]
 
-  copies_own : (v : Frame) (ph : RPhase R) → copies v.unit ph ≡ length (frozen_in (see_phase v ph)) + length (free_in (see_phase v ph))
+  copies_own : (v : Frame) (ph : MovePhase R) → copies v.unit ph ≡ length (frozen_in (see_phase v ph)) + length (free_in (see_phase v ph))
   copies_own v (Streaming frozen free came door) = let a = have_own v frozen in let b = have_own v free in rw (a, b) refl
   copies_own v phase = refl
 
@@ -95,7 +95,8 @@ module _ {R : Type 0} (S : Sys R) (laws : IsSys S) where
 
   -- and with what was refused and is on its way back
   pub one_copy_back : (w : World S) → Global S w → (u : Unit) (ps : List ℕ) (b : Bool) → Where S laws u w ps b → (n : ℕ) (e : Open R)
-      → find_op w.ops n ≡ Some e → (g : Filter) (why : Answer) (cs : Chunks R) (rest : List (Msg R)) → w.link e.op.dst 1 ≡ Mv g (M_put_no n why cs) ∷ rest
+      → find_op w.ops n ≡ Some e → (g : Filter) (why : Answer) (cs : Chunks R) (rest : List (Msg R)) → w.link e.op.dst 1
+      ≡ Of_move g (MoveMsg.Put_no n why cs) ∷ rest
       → has u cs + copies u e.phase ≤ 1
   one_copy_back w global u ps b here n e there g why cs rest waits =
       let k = shown S laws u w ps b global here in
@@ -105,8 +106,8 @@ module _ {R : Type 0} (S : Sys R) (laws : IsSys S) where
       (λ on.
       let own = own_move z w x k.holds n e there on in
       let a = own.1 in
-      let is : seen (frame S z) (Mv g (M_put_no n why cs)) ≡ Some (Put_no why (record_at u cs)) = rw on refl in
-      let link = from_target z w x k.holds e.op.dst (ap (λ o. o.dst) own.0) (Mv g (M_put_no n why cs)) rest waits (Put_no why (record_at u cs)) is in
+      let is : seen (frame S z) (Of_move g (MoveMsg.Put_no n why cs)) ≡ Some (Put_no why (record_at u cs)) = rw on refl in
+      let link = from_target z w x k.holds e.op.dst (ap (λ o. o.dst) own.0) (Of_move g (MoveMsg.Put_no n why cs)) rest waits (Put_no why (record_at u cs)) is in
       let back = records_head (Put_no why (record_at u cs)) (filter_map (seen (frame S z)) rest) x.bc link in
       let one = has_own u cs in
       let few = few_records S.F k.seat in
@@ -122,7 +123,7 @@ module _ {R : Type 0} (S : Sys R) (laws : IsSys S) where
 
   -- an event that comes is one of an open move
   pub event_open : (w : World S) (i n p : ℕ) (ps : List ℕ) (b : Bool) → Where S laws (S.packet_unit p) w ps b → (g : Filter) (rest : List (Msg R))
-      → w.link i 1 ≡ Mv g (M_event n p) ∷ rest → find_op w.ops n ≡ None → ⊥
+      → w.link i 1 ≡ Of_move g (MoveMsg.Event n p) ∷ rest → find_op w.ops n ≡ None → ⊥
   event_open w i n p ps bared here g rest waits none = by_where here
     where
       u : Unit

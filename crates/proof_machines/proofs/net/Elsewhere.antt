@@ -2,9 +2,9 @@
 -- sent a fence of a number that no open move has. What of its target and its rest is read off where it is.
 use Rattle.proof_machines.proofs.net.Words.{filter_map-append, ◌≡◌, ℕ, ◌≤◌, Bool, true, false, Some, None, List, [], ◌∷◌, ◌++◌, refl, sym, ap, ◌∙◌, subst}
 use Rattle.proof_machines.proofs.net.Words.{append-nil, if◌then◌else◌, ◌&&◌, ◌==◌, Decides-eqb, At_a, At_b, At_c, Ran, State, sent_for, only_mine, Each, Nodes}
-use Rattle.proof_machines.proofs.net.Words.{filter_map, seat_shape, Msg, Fence_on, Sys, IsSys, find_rule, rule_of}
-use Rattle.proof_machines.proofs.net.Words.{held_of, find_op, World, seen, Seeing, frame, Label, shows, RuleLabel, OpLabel, place, IsController, Holds}
-use Rattle.proof_machines.proofs.net.Words.{each_put, Rest, RestRule, RestOp, NothingOf, carries_of, done_u, split, false_from_ne_true, Unit, Side}
+use Rattle.proof_machines.proofs.net.Words.{filter_map, seat_shape, Msg, Fence_on, Sys, IsSys, find_rule, rule_of, held_of, find_op, World, seen, Seeing, frame}
+use Rattle.proof_machines.proofs.net.Words.{Label, shows, RuleLabel, OpLabel, place, IsController, Holds, each_put, Rest, RestRule, RestOp, NothingOf}
+use Rattle.proof_machines.proofs.net.Words.{carries_of, done_u, split, false_from_ne_true, Unit, Side}
 use Rattle.proof_machines.proofs.net.Ctrl.{each_found}
 use Rattle.proof_machines.proofs.net.OtherWorld.{put_unseen, one_unseen}
 use Rattle.proof_machines.proofs.net.Units.{Where, Where.At_rest, Where.In_move, see}

@@ -2,12 +2,11 @@
 use Rattle.proof_machines.proofs.unit.SeenInst.{put_answers}
 use Rattle.proof_machines.proofs.EachLaws.{each_made}
 use Rattle.proof_machines.proofs.net.Words.{◌≡◌, ℕ, suc, ◌<◌, ◌≤◌, Bool, true, false, Option, Some, None, List, [], ◌∷◌, map, length, refl, subst, arith}
-use Rattle.proof_machines.proofs.net.Words.{if◌then◌else◌, ◌&&◌, ◌==◌, Rule, Free, Drops, Buffers, RPiece, M_enable, M_stream, M_delete, M_put, M_restore}
-use Rattle.proof_machines.proofs.net.Words.{M_piece, M_forward, M_install, M_fence_to, Op, marks, chop, Each, each-append, each_map, Filter, inst_next}
-use Rattle.proof_machines.proofs.net.Words.{ctrl_next, sw_next, in_next, begin_next, Msg, Carry_on, Pass_on, Fence_on, Mv, MoveAsked, Sys, IsSys, Ruling}
-use Rattle.proof_machines.proofs.net.Words.{first_rule, set_rule, hold, holding, to_ctrl, NumberedInstance, by_kind, by_rule, inst_step, Open}
-use Rattle.proof_machines.proofs.net.Words.{find_op, num_of, row, wrap, found, numbered, ctrl_step, sw_sends, new_op, begin_sends, World, EachSent, each_after}
-use Rattle.proof_machines.proofs.net.Words.{each_put, Below, IsBelow, Global, Unit}
+use Rattle.proof_machines.proofs.net.Words.{if◌then◌else◌, ◌&&◌, ◌==◌, Rule, Free, Drops, Buffers, MovePiece, MoveMsg, Op, marks, chop, Each, each-append}
+use Rattle.proof_machines.proofs.net.Words.{each_map, Filter, inst_next, ctrl_next, sw_next, in_next, begin_next, Msg, Carry_on, Pass_on, Fence_on, Of_move}
+use Rattle.proof_machines.proofs.net.Words.{MoveAsked, Sys, IsSys, Ruling, first_rule, set_rule, hold, holding, to_ctrl, NumberedInstance, by_kind, by_rule}
+use Rattle.proof_machines.proofs.net.Words.{inst_step, Open, find_op, num_of, row, wrap, found, numbered, ctrl_step, sw_sends, new_op, begin_sends, World}
+use Rattle.proof_machines.proofs.net.Words.{EachSent, each_after, each_put, Below, IsBelow, Global, Unit}
 use Rattle.proof_machines.proofs.unit.Real
 use Rattle.proof_machines.proofs.NumberedLists.{each-change, each-drop}
 use Rattle.proof_machines.proofs.net.RuleLists.{each_set}
@@ -46,7 +45,7 @@ module _ {R : Type 0} (S : Sys R) (laws : IsSys S) where
     carry_below i p None e h = (tt, h)
     carry_below i p (Some r) e h = kind_below i p r.num r.rule (first_below (S.packet_unit p) i.rules r h e) h
 
-    pieces_below : (n : ℕ) (ps : List (RPiece R)) → n < b → SendsBelow (map to_ctrl (map (λ p. M_piece n p) ps))
+    pieces_below : (n : ℕ) (ps : List (MovePiece R)) → n < b → SendsBelow (map to_ctrl (map (λ p. MoveMsg.Piece n p) ps))
     pieces_below n [] e = tt
     pieces_below n (p ∷ ps) e = (e, pieces_below n ps e)
 
@@ -55,37 +54,37 @@ module _ {R : Type 0} (S : Sys R) (laws : IsSys S) where
     inst_below i (Carry_on p) e h = carry_below i p (first_rule S (S.packet_unit p) i.rules) refl h
     inst_below i (Pass_on p) e h = (tt, h)
     inst_below i (Fence_on n) e h = ((e, tt), each-drop _ (λ r. r.num < b) n i.rules h)
-    inst_below i (Mv g (M_enable n k)) e h = ((e, tt), rules_set n g k i.rules e h)
-    inst_below i (Mv g (M_stream n)) e h = (
+    inst_below i (Of_move g (MoveMsg.Enable n k)) e h = ((e, tt), rules_set n g k i.rules e h)
+    inst_below i (Of_move g (MoveMsg.Stream n)) e h = (
       pieces_below n (marks (length (S.B.select (S.takes g) i.live)) (S.newest (S.B.select (S.takes g) i.live))
           (chop (length (S.B.select (S.takes g) i.live)) (S.B.select (S.takes g) i.live))) e,
       h,
     )
-    inst_below i (Mv g (M_delete n us)) e h = ((e, tt), h)
-    inst_below i (Mv g (M_put n p first)) e h =
+    inst_below i (Of_move g (MoveMsg.Delete n us)) e h = ((e, tt), h)
+    inst_below i (Of_move g (MoveMsg.Put n p first)) e h =
         (each_made _ to_ctrl (λ _ k. k) _ (put_answers S.F S.B (λ m. IsBelow b (num_of m)) n first (S.refuse i.room i.live p) p i.live e (λ _. e)), h)
-    inst_below i (Mv g (M_restore n cs)) e h = ((e, tt), h)
+    inst_below i (Of_move g (MoveMsg.Restore n cs)) e h = ((e, tt), h)
     inst_below i m e h = (tt, h)
 
     -- the controller
-    of_row_below : (o : Op) (m : Real.Msg R) → o.num < b → OfRow o m → IsBelow b (num_of m)
-    of_row_below o (M_enable n k) h e = rw e.0 h
-    of_row_below o (M_stream n) h e = rw e h
-    of_row_below o (M_delete n us) h e = rw e h
-    of_row_below o (M_put n p first) h e = rw e h
-    of_row_below o (M_restore n cs) h e = rw e h
-    of_row_below o (M_install n from to) h e = rw e h
-    of_row_below o (M_fence_to n to) h e = rw e h
-    of_row_below o (M_forward p to) h e = tt
+    of_row_below : (o : Op) (m : MoveMsg R) → o.num < b → OfRow o m → IsBelow b (num_of m)
+    of_row_below o (MoveMsg.Enable n k) h e = rw e.0 h
+    of_row_below o (MoveMsg.Stream n) h e = rw e h
+    of_row_below o (MoveMsg.Delete n us) h e = rw e h
+    of_row_below o (MoveMsg.Put n p first) h e = rw e h
+    of_row_below o (MoveMsg.Restore n cs) h e = rw e h
+    of_row_below o (MoveMsg.Install n from to) h e = rw e h
+    of_row_below o (MoveMsg.Fence_to n to) h e = rw e h
+    of_row_below o (MoveMsg.Forward p to) h e = tt
     of_row_below o m h e = absurd e
 
-    wrap_below : (o : Op) (g : Filter) (xs : List (ℕ × Real.Msg R)) → o.num < b → Each (SentOf o) xs → SendsBelow (wrap g xs)
+    wrap_below : (o : Op) (g : Filter) (xs : List (ℕ × MoveMsg R)) → o.num < b → Each (SentOf o) xs → SendsBelow (wrap g xs)
     wrap_below o g xs h e = each_made _ _ (λ x row. of_row_below o x.1 h row) xs e
 
     abbrev OpsBelow : List (Open R) → Type 0
     OpsBelow es = Each (λ e. e.op.num < b) es
 
-    found_below : (es : List (Open R)) (n port : ℕ) (m : Real.Msg R) (o : Option (Open R)) → find_op es n ≡ o → OpsBelow es
+    found_below : (es : List (Open R)) (n port : ℕ) (m : MoveMsg R) (o : Option (Open R)) → find_op es n ≡ o → OpsBelow es
         → SendsBelow (found es n port m o).sends × OpsBelow (found es n port m o).ops
     found_below es n port m None e h = (tt, h)
     found_below es n port m (Some x) e h =
@@ -94,22 +93,22 @@ module _ {R : Type 0} (S : Sys R) (laws : IsSys S) where
           each_write (λ y. y.op.num < b) n (row x port m).phase (row x port m).store es (λ y _ k. k) h,
         )
 
-    numbered_below : (es : List (Open R)) (port : ℕ) (m : Real.Msg R) (o : Option ℕ) → OpsBelow es
+    numbered_below : (es : List (Open R)) (port : ℕ) (m : MoveMsg R) (o : Option ℕ) → OpsBelow es
         → SendsBelow (numbered es port m o).sends × OpsBelow (numbered es port m o).ops
     numbered_below es port m None h = (tt, h)
     numbered_below es port m (Some n) h = found_below es n port m (find_op es n) refl h
 
     ctrl_below : (es : List (Open R)) (port : ℕ) (m : Msg R) → OpsBelow es → SendsBelow (ctrl_step es port m).sends × OpsBelow (ctrl_step es port m).ops
-    ctrl_below es port (Mv g m) h = numbered_below es port m (num_of m) h
+    ctrl_below es port (Of_move g m) h = numbered_below es port m (num_of m) h
     ctrl_below es port (Carry_on p) h = (tt, h)
     ctrl_below es port m h = (tt, h)
 
     -- the switch
     sw_below : (m : Msg R) → Below b m → SendsBelow (sw_sends m)
-    sw_below (Mv g (M_forward p to)) e = (tt, tt)
-    sw_below (Mv g (M_install n from to)) e = (e, tt)
-    sw_below (Mv g (M_fence_to n to)) e = (e, tt)
-    sw_below (Mv g m) e = tt
+    sw_below (Of_move g (MoveMsg.Forward p to)) e = (tt, tt)
+    sw_below (Of_move g (MoveMsg.Install n from to)) e = (e, tt)
+    sw_below (Of_move g (MoveMsg.Fence_to n to)) e = (e, tt)
+    sw_below (Of_move g m) e = tt
     sw_below (Carry_on p) e = tt
     sw_below m e = tt
 
@@ -157,7 +156,7 @@ module _ {R : Type 0} (S : Sys R) (laws : IsSys S) where
   below_num_more a b few (Some k) e = omega (arith, e, few)
 
   below_more : (a b : ℕ) → a ≤ b → (m : Msg R) → Below a m → Below b m
-  below_more a b few (Mv g m) e = below_num_more a b few (num_of m) e
+  below_more a b few (Of_move g m) e = below_num_more a b few (num_of m) e
   below_more a b few (Fence_on k) e = omega (arith, e, few)
   below_more a b few m e = tt
 

@@ -9,8 +9,8 @@ use Rattle.flow_filter.specs.declared.filter.Filter.{Filter}
 use Rattle.proof_machines.proofs.net.Net.{Sys, NumberedInstance, find_op}
 use Rattle.proof_machines.proofs.net.Rest.{Global}
 use Rattle.proof_machines.proofs.net.ShareLists.{AreNumbersApart}
-use Rattle.proof_machines.proofs.net.Shares.{Any, ShareMsg, ShareMsg.Shared_on, ShareMsg.Diverted_on, ShareMsg.S_asked, ShareMsg.S_install, ShareMsg.S_forward}
-use Rattle.proof_machines.proofs.net.Shares.{ShareMsg.S_get, ShareMsg.S_sync, ShareMsg.S_chunks, ShareMsg.S_shared, ShareMsg.S_synced, EachNew, same, Sharing}
+use Rattle.proof_machines.proofs.net.Shares.{Any, ShareMsg, ShareMsg.Shared_on, ShareMsg.Diverted_on}
+use Rattle.proof_machines.proofs.net.Shares.{EachNew, same, Sharing}
 use Rattle.proof_machines.proofs.net.Shares.{OpenShare, find_share, share_taking, WholeWorld, moves_of}
 use Rattle.nf_function.specs.declared.unit.Unit as units
 use Rattle.std.proofs.lemmas.Bool.{false_from_ne_true}
@@ -23,8 +23,8 @@ pub record Opened (es : List OpenShare) (n : ℕ) (P : OpenShare → Type 0) : T
 
 -- numbers of what may be a copy's
 abbrev pub Numbered : {R : Type 0} → ℕ → ShareMsg R → Type 0
-Numbered b (S_get n g) = n < b
-Numbered b (S_chunks n cs) = n < b
+Numbered b (ShareMsg.Get n g) = n < b
+Numbered b (ShareMsg.Chunks n cs) = n < b
 Numbered b m = Prim.Unit {0}
 
 module _ {R : Type 0} (S : Sys R) where
@@ -47,15 +47,15 @@ module _ {R : Type 0} (S : Sys R) where
   abbrev pub OfShare : List OpenShare → ℕ → ShareMsg R → Type 0
   OfShare es j (Shared_on n home p) = Opened es n (λ e. (S.takes e.filter (S.packet_unit p) ≡ true) × (same home (j == e.home) ≡ true))
   OfShare es j (Diverted_on p) = (j ≡ 1) × TakesSome es (S.packet_unit p)
-  OfShare es j (S_asked x) = Prim.Unit {0}
-  OfShare es j (S_install n g from) = Opened es n (λ e. (g ≡ e.filter) × (from ≡ e.home))
-  OfShare es j (S_forward n home p to) =
+  OfShare es j (ShareMsg.Asked x) = Prim.Unit {0}
+  OfShare es j (ShareMsg.Install n g from) = Opened es n (λ e. (g ≡ e.filter) × (from ≡ e.home))
+  OfShare es j (ShareMsg.Forward n home p to) =
       Opened es n (λ e. (S.takes e.filter (S.packet_unit p) ≡ true) × (has e.members to ≡ true) × (same home (to == e.home) ≡ true))
-  OfShare es j (S_get n g) = (e : OpenShare) → find_share es n ≡ Some e → (g ≡ e.filter) × (j ≡ e.home)
-  OfShare es j (S_sync n home cs) = Opened es n (λ e. Within e.filter cs × (same home (j == e.home) ≡ true))
-  OfShare es j (S_chunks n cs) = (e : OpenShare) → find_share es n ≡ Some e → Within e.filter cs
-  OfShare es j (S_shared n c) = Opened es n (λ e. S.takes e.filter c.0 ≡ true)
-  OfShare es j (S_synced n) = Opened es n (λ e. Prim.Unit {0})
+  OfShare es j (ShareMsg.Get n g) = (e : OpenShare) → find_share es n ≡ Some e → (g ≡ e.filter) × (j ≡ e.home)
+  OfShare es j (ShareMsg.Sync n home cs) = Opened es n (λ e. Within e.filter cs × (same home (j == e.home) ≡ true))
+  OfShare es j (ShareMsg.Chunks n cs) = (e : OpenShare) → find_share es n ≡ Some e → Within e.filter cs
+  OfShare es j (ShareMsg.Shared n c) = Opened es n (λ e. S.takes e.filter c.0 ≡ true)
+  OfShare es j (ShareMsg.Synced n) = Opened es n (λ e. Prim.Unit {0})
 
   module _ (A : Sharing S) where
     pub record GlobalAll (w : WholeWorld S A) : Type 0 where

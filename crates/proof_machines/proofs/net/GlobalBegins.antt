@@ -3,9 +3,9 @@
 use Rattle.proof_machines.proofs.net.Words.{◌||◌, ◌≡◌, ℕ, suc, ◌<◌, ◌≤◌, Bool, true, false, Some, None, List, [], ◌∷◌, ◌++◌, ◌⊎◌, inl, inr, length, refl, sym}
 use Rattle.proof_machines.proofs.net.Words.{ap, ◌∙◌, subst, arith, if◌then◌else◌, ◌&&◌, ◌==◌, nat_tests, Decides-eqb, self, Each, each-append, each_map, Filter}
 use Rattle.proof_machines.proofs.net.Words.{Asked, MoveAsked, Sys, IsSys, Open, find_op, new_op, meets_any, begin_sends, begin_next, each_put, Below, find_old}
-use Rattle.proof_machines.proofs.net.Words.{find_new, Numbered, Disjoint, disjoint_sym, OfShare, GlobalAll, same_shares, Any, Old, New, ShareMsg, S_asked}
-use Rattle.proof_machines.proofs.net.Words.{S_install, S_get, S_chunks, WantShare, olds, as_old, Sharing, OpenShare, new_share, find_share, WholeWorld}
-use Rattle.proof_machines.proofs.net.Words.{moves_of, asks, begin_move, begin_share, puts_get, keeps, meets_shares, MayShare, split}
+use Rattle.proof_machines.proofs.net.Words.{find_new, Numbered, Disjoint, disjoint_sym, OfShare, GlobalAll, same_shares, Any, Old, New, ShareMsg, ShareAsked}
+use Rattle.proof_machines.proofs.net.Words.{olds, as_old, Sharing, OpenShare, new_share, find_share, WholeWorld, moves_of, asks, begin_move, begin_share}
+use Rattle.proof_machines.proofs.net.Words.{puts_get, keeps, meets_shares, MayShare, split}
 use Rattle.proof_machines.proofs.net.Every.{begin_global, global_more}
 use Rattle.proof_machines.proofs.net.AsMoves.{old_sends-old, olds-put, no_olds-put}
 use Rattle.proof_machines.proofs.net.NewMessages.{each_new_map, each_new_both, sent_old, new_put}
@@ -28,8 +28,8 @@ module _ {R : Type 0} (S : Sys R) (A : Sharing S) (laws : IsSys S) where
 
   -- the next number grows
   numbered_more : (a b : ℕ) → a ≤ b → (m : ShareMsg R) → Numbered a m → Numbered b m
-  numbered_more a b few (S_get n g) h = omega (arith, h, few)
-  numbered_more a b few (S_chunks n cs) h = omega (arith, h, few)
+  numbered_more a b few (ShareMsg.Get n g) h = omega (arith, h, few)
+  numbered_more a b few (ShareMsg.Chunks n cs) h = omega (arith, h, few)
   numbered_more a b few m h = tt
 
   numbers_more : (w : WholeWorld S A) → GlobalAll S A w → (b : ℕ) → w.next ≤ b → (i j : ℕ) → (i == 0) && (j == 0) ≡ false
@@ -74,13 +74,13 @@ module _ {R : Type 0} (S : Sys R) (A : Sharing S) (laws : IsSys S) where
           (each-append (λ o. Disjoint S e.filter o.filter) w.ops (new_op x.num x ∷ []) a.0 (disjoint_sym S x.filter e.filter b.0, tt), both es a.1 b.1)
 
   -- a share begins
-  pub share_keeps : (w : WholeWorld S A) → GlobalAll S A w → (x : WantShare) → MayShare S A w x → GlobalAll S A (begin_share S A w x)
+  pub share_keeps : (w : WholeWorld S A) → GlobalAll S A w → (x : ShareAsked) → MayShare S A w x → GlobalAll S A (begin_share S A w x)
   share_keeps w g x may =
       let fresh = may.fresh in
       let two = may.two in
       let few : w.next ≤ suc x.num = omega (arith, fresh) in
       let more = global_more S laws (moves_of S A w) g.moves (suc x.num) few in
-      let install : List (ℕ × Any R) = (0, New (S_install x.num x.filter x.home)) ∷ [] in
+      let install : List (ℕ × Any R) = (0, New (ShareMsg.Install x.num x.filter x.home)) ∷ [] in
       record {
         moves = record {
           messages = λ i j e. subst (λ ms. Each (Below (suc x.num)) ms) (sym (no_olds-put (w.link i j) (i == 1) j install refl)) (more.messages i j e);
@@ -144,7 +144,7 @@ module _ {R : Type 0} (S : Sys R) (A : Sharing S) (laws : IsSys S) where
   get_keeps w g n f src fresh =
       let few : w.next ≤ suc n = omega (arith, fresh) in
       let more = global_more S laws (moves_of S A w) g.moves (suc n) few in
-      let get : List (ℕ × Any R) = (src, New (S_get n f)) ∷ [] in
+      let get : List (ℕ × Any R) = (src, New (ShareMsg.Get n f)) ∷ [] in
       same_shares S A g
       (record {
         messages = λ i j e. subst (λ ms. Each (Below (suc n)) ms) (sym (no_olds-put (w.link i j) (i == 1) j get refl)) (more.messages i j e);
@@ -172,10 +172,10 @@ module _ {R : Type 0} (S : Sys R) (A : Sharing S) (laws : IsSys S) where
       (new_put (λ _ m. Numbered w.next m) w.link g.numbers 0 ((1, Old (Asked x)) ∷ []) (tt, tt))
       g.shares_below
 
-  pub asks_share_keeps : (w : WholeWorld S A) → GlobalAll S A w → (x : WantShare) → GlobalAll S A (asks S A w (New (S_asked x)))
+  pub asks_share_keeps : (w : WholeWorld S A) → GlobalAll S A w → (x : ShareAsked) → GlobalAll S A (asks S A w (New (ShareMsg.Asked x)))
   asks_share_keeps w g x = same_shares S A g
-      (global_as S A laws (moves_of S A w) (moves_of S A (asks S A w (New (S_asked x)))).link
-      (λ i j. no_olds-put (w.link i j) (i == 0) j ((1, New (S_asked x)) ∷ []) refl) g.moves)
-      (new_put (OfShare S w.shares) w.link g.messages 0 ((1, New (S_asked x)) ∷ []) (tt, tt))
-      (new_put (λ _ m. Numbered w.next m) w.link g.numbers 0 ((1, New (S_asked x)) ∷ []) (tt, tt))
+      (global_as S A laws (moves_of S A w) (moves_of S A (asks S A w (New (ShareMsg.Asked x)))).link
+      (λ i j. no_olds-put (w.link i j) (i == 0) j ((1, New (ShareMsg.Asked x)) ∷ []) refl) g.moves)
+      (new_put (OfShare S w.shares) w.link g.messages 0 ((1, New (ShareMsg.Asked x)) ∷ []) (tt, tt))
+      (new_put (λ _ m. Numbered w.next m) w.link g.numbers 0 ((1, New (ShareMsg.Asked x)) ∷ []) (tt, tt))
       g.shares_below

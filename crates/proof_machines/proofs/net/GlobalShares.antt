@@ -2,9 +2,9 @@
 use Rattle.proof_machines.proofs.net.Words.{◌≡◌, ℕ, ◌<◌, ◌≤◌, Bool, true, false, Option, Some, None, List, [], ◌∷◌, ◌++◌, length, refl, sym, ap, ◌∙◌, subst}
 use Rattle.proof_machines.proofs.net.Words.{arith, if◌then◌else◌, ◌==◌, nat_tests, Chunks, Each, each-append, each_any, SharePhase, has, Filter, Msg, Sys, Open}
 use Rattle.proof_machines.proofs.net.Words.{find_op, ctrl_step, num_of, numbered, found, row, SameShare, AreNumbersApart, find_set, set_find, find_more}
-use Rattle.proof_machines.proofs.net.Words.{find_old, Opened, Numbered, Within, TakesSome, OfShare, Any, Old, New, ShareMsg, Shared_on, Diverted_on, S_asked}
-use Rattle.proof_machines.proofs.net.Words.{S_install, S_forward, S_get, S_sync, S_chunks, S_shared, S_synced, same, Sharing, IsSharing, OpenShare, find_share}
-use Rattle.proof_machines.proofs.net.Words.{set_share, share_taking, Told, same_unit, same_unit-true, split, by_if, Unit}
+use Rattle.proof_machines.proofs.net.Words.{find_old, Opened, Numbered, Within, TakesSome, OfShare, Any, Old, New, ShareMsg, Shared_on, Diverted_on, same}
+use Rattle.proof_machines.proofs.net.Words.{Sharing, IsSharing, OpenShare, find_share, set_share, share_taking, Told, same_unit, same_unit-true, split, by_if}
+use Rattle.proof_machines.proofs.net.Words.{Unit}
 use Rattle.proof_machines.proofs.net.Net as net
 use Rattle.proof_machines.proofs.net.Ctrl.{each_write}
 use Rattle.proof_machines.proofs.net.NewMessages.{OnNew}
@@ -42,9 +42,9 @@ none_set n ph q es k none = by_found (find_share (set_share n ph q es) k) refl
 
 -- Open moves: what holds of each by its number and filter stays
 pub ctrl_each : {R : Type 0} (P : Open R → Type 0)
-    → ((e : Open R) (ph : Rattle.proof_machines.proofs.unit.Real.RPhase R) (f : List ℕ) → P e → P (record e { phase = ph; store = f }))
+    → ((e : Open R) (ph : Rattle.proof_machines.proofs.unit.Real.MovePhase R) (f : List ℕ) → P e → P (record e { phase = ph; store = f }))
     → (es : List (Open R)) (p : ℕ) (m : Msg R) → Each P es → Each P (ctrl_step es p m).ops
-ctrl_each {R} P step es p (net.Mv g m) h = by_num (num_of m)
+ctrl_each {R} P step es p (net.Of_move g m) h = by_num (num_of m)
   where
     by_move : (n : ℕ) (o : Option (Open R)) → Each P (found es n p m o).ops
     by_move n None = h
@@ -120,19 +120,20 @@ module _ {R : Type 0} (S : Sys R) where
   of_share_set n ph q es j (Shared_on k home p) o = opened_set n ph q es k (λ e. (S.takes e.filter (S.packet_unit p) ≡ true)
       × (same home (j == e.home) ≡ true)) (λ d e s h. (same_filter d e (S.packet_unit p) true s h.0, same_home d e home j s h.1)) o
   of_share_set n ph q es j (Diverted_on p) o = (o.0, taking_set n ph q es (S.packet_unit p) o.1)
-  of_share_set n ph q es j (S_asked x) o = tt
-  of_share_set n ph q es j (S_install k g from) o =
+  of_share_set n ph q es j (ShareMsg.Asked x) o = tt
+  of_share_set n ph q es j (ShareMsg.Install k g from) o =
       opened_set n ph q es k (λ e. (g ≡ e.filter) × (from ≡ e.home)) (λ d e s h. (h.0 ∙ sym s.filter, h.1 ∙ sym s.home)) o
-  of_share_set n ph q es j (S_forward k home p to) o =
+  of_share_set n ph q es j (ShareMsg.Forward k home p to) o =
       opened_set n ph q es k (λ e. (S.takes e.filter (S.packet_unit p) ≡ true) × (has e.members to ≡ true) × (same home (to == e.home) ≡ true))
       (λ d e s h. (same_filter d e (S.packet_unit p) true s h.0, ap (λ ms. has ms to) s.members ∙ h.1, same_home d e home to s h.2)) o
-  of_share_set n ph q es j (S_get k g) o = λ e is. let f = set_find n ph q es k e is in let h = o f.share f.found in (h.0 ∙ f.same.filter, h.1 ∙ f.same.home)
-  of_share_set n ph q es j (S_sync k home cs) o = opened_set n ph q es k (λ e. Within S e.filter cs × (same home (j == e.home) ≡ true))
+  of_share_set n ph q es j (ShareMsg.Get k g) o = λ e is. let f = set_find n ph q es k e is in let h =
+      o f.share f.found in (h.0 ∙ f.same.filter, h.1 ∙ f.same.home)
+  of_share_set n ph q es j (ShareMsg.Sync k home cs) o = opened_set n ph q es k (λ e. Within S e.filter cs × (same home (j == e.home) ≡ true))
       (λ d e s h. (same_within d e cs s h.0, same_home d e home j s h.1)) o
-  of_share_set n ph q es j (S_chunks k cs) o = λ e is v out.
+  of_share_set n ph q es j (ShareMsg.Chunks k cs) o = λ e is v out.
       let f = set_find n ph q es k e is in o f.share f.found v (ap (λ g. S.takes g v) f.same.filter ∙ out)
-  of_share_set n ph q es j (S_shared k c) o = opened_set n ph q es k (λ e. S.takes e.filter c.0 ≡ true) (λ d e s h. same_filter d e c.0 true s h) o
-  of_share_set n ph q es j (S_synced k) o = opened_set n ph q es k (λ e. Prim.Unit {0}) (λ d e s h. tt) o
+  of_share_set n ph q es j (ShareMsg.Shared k c) o = opened_set n ph q es k (λ e. S.takes e.filter c.0 ≡ true) (λ d e s h. same_filter d e c.0 true s h) o
+  of_share_set n ph q es j (ShareMsg.Synced k) o = opened_set n ph q es k (λ e. Prim.Unit {0}) (λ d e s h. tt) o
 
   -- another begins
   opened_more : (es : List OpenShare) (x : OpenShare) (k : ℕ) (P : OpenShare → Type 0) → Opened es k P → Opened (es ++ x ∷ []) k P
@@ -148,17 +149,17 @@ module _ {R : Type 0} (S : Sys R) where
   of_share_more es x b fresh j (Shared_on k home p) few o =
       opened_more es x k (λ e. (S.takes e.filter (S.packet_unit p) ≡ true) × (same home (j == e.home) ≡ true)) o
   of_share_more es x b fresh j (Diverted_on p) few o = (o.0, (o.1.0, taking_more es x (S.packet_unit p) o.1.0 o.1.1))
-  of_share_more es x b fresh j (S_asked y) few o = tt
-  of_share_more es x b fresh j (S_install k g from) few o = opened_more es x k (λ e. (g ≡ e.filter) × (from ≡ e.home)) o
-  of_share_more es x b fresh j (S_forward k home p to) few o =
+  of_share_more es x b fresh j (ShareMsg.Asked y) few o = tt
+  of_share_more es x b fresh j (ShareMsg.Install k g from) few o = opened_more es x k (λ e. (g ≡ e.filter) × (from ≡ e.home)) o
+  of_share_more es x b fresh j (ShareMsg.Forward k home p to) few o =
       opened_more es x k (λ e. (S.takes e.filter (S.packet_unit p) ≡ true) × (has e.members to ≡ true) × (same home (to == e.home) ≡ true)) o
-  of_share_more es x b fresh j (S_get k g) few o = λ e is.
+  of_share_more es x b fresh j (ShareMsg.Get k g) few o = λ e is.
       let off : (x.num == k) ≡ false = grind (arith, nat_tests, few, fresh) in o e (sym (find_old es x k off) ∙ is)
-  of_share_more es x b fresh j (S_sync k home cs) few o = opened_more es x k (λ e. Within S e.filter cs × (same home (j == e.home) ≡ true)) o
-  of_share_more es x b fresh j (S_chunks k cs) few o = λ e is.
+  of_share_more es x b fresh j (ShareMsg.Sync k home cs) few o = opened_more es x k (λ e. Within S e.filter cs × (same home (j == e.home) ≡ true)) o
+  of_share_more es x b fresh j (ShareMsg.Chunks k cs) few o = λ e is.
       let off : (x.num == k) ≡ false = grind (arith, nat_tests, few, fresh) in o e (sym (find_old es x k off) ∙ is)
-  of_share_more es x b fresh j (S_shared k c) few o = opened_more es x k (λ e. S.takes e.filter c.0 ≡ true) o
-  of_share_more es x b fresh j (S_synced k) few o = opened_more es x k (λ e. Prim.Unit {0}) o
+  of_share_more es x b fresh j (ShareMsg.Shared k c) few o = opened_more es x k (λ e. S.takes e.filter c.0 ≡ true) o
+  of_share_more es x b fresh j (ShareMsg.Synced k) few o = opened_more es x k (λ e. Prim.Unit {0}) o
 
   -- What a share is told, and what it sends
   module _ (A : Sharing S) where
@@ -174,12 +175,12 @@ module _ {R : Type 0} (S : Sys R) where
     pub told_of : (es : List OpenShare) (m : Any R) (e : OpenShare) (t : Told R) → OnNew (OfShare S es 1) m → Tells S A es m e t
         → ToldOf S A e (TakenBy e) (Within S e.filter) t
     told_of es (Old m) e t h is = rw is tt
-    told_of es (New (S_chunks n cs)) e t h is = let eq = is.1 in rw eq (h e is.0)
-    told_of es (New (S_shared n c)) e t h is =
+    told_of es (New (ShareMsg.Chunks n cs)) e t h is = let eq = is.1 in rw eq (h e is.0)
+    told_of es (New (ShareMsg.Shared n c)) e t h is =
         let eq = is.1 in
         let same : h.share ≡ e = (let both = sym h.found ∙ is.0 in cc) in
         rw eq (one_within e.filter c (subst (λ d. S.takes d.filter c.0 ≡ true) same h.says))
-    told_of es (New (S_synced n)) e t h is = rw is tt
+    told_of es (New (ShareMsg.Synced n)) e t h is = rw is tt
     told_of es (New (Diverted_on p)) e t h is =
         let eq = is.1 in let k = (taking_each S A (λ _. Prim.Unit {0}) es (S.packet_unit p) e (each_any es) is.0).1 in rw eq k
     told_of es m e t h is = absurd is
@@ -187,15 +188,15 @@ module _ {R : Type 0} (S : Sys R) where
     -- d is the share e after its step
     pub sent_of : IsSharing S A → (es : List OpenShare) (e d : OpenShare) → find_share es e.num ≡ Some d → SameShare d e → 0 < length e.members
         → (j : ℕ) (m : Any R) → SentBy S A e (TakenBy e) (Within S e.filter) j m → OnNew (OfShare S es j) m
-    sent_of ok es e d there s some j (New (S_get n g)) h = λ x is.
+    sent_of ok es e d there s some j (New (ShareMsg.Get n g)) h = λ x is.
         let same : x ≡ d = (let both : Some x ≡ Some d = sym is ∙ ap (find_share es) h.0 ∙ there in cc) in
         (h.1 ∙ sym s.filter ∙ ap (λ y. y.filter) (sym same), h.2 ∙ sym s.home ∙ ap (λ y. y.home) (sym same))
-    sent_of ok es e d there s some j (New (S_sync n home cs)) h = record {
+    sent_of ok es e d there s some j (New (ShareMsg.Sync n home cs)) h = record {
       share = d;
       found = ap (find_share es) h.0 ∙ there;
       says = (same_within d e cs s h.1, (let eq : home ≡ (j == d.home) = h.2 ∙ ap (λ k. j == k) (sym s.home) in rw eq (self (j == d.home))));
     }
-    sent_of ok es e d there s some j (New (S_forward n home p to)) h = record {
+    sent_of ok es e d there s some j (New (ShareMsg.Forward n home p to)) h = record {
       share = d;
       found = ap (find_share es) h.0 ∙ there;
       says = (

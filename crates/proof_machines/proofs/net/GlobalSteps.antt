@@ -6,9 +6,9 @@ use Rattle.proof_machines.proofs.net.Words.{subst, if◌then◌else◌, ◌&&◌
 use Rattle.proof_machines.proofs.net.Words.{Filter, Msg, Carry_on, Sys, IsSys, process, inst_step, Open, find_op, sw_sends, World, inst_next, ctrl_next}
 use Rattle.proof_machines.proofs.net.Words.{sw_next, in_next, EachSent, each_put, Below, Global, AreNumbersApart, found_each, found_num, each_set_share}
 use Rattle.proof_machines.proofs.net.Words.{find_set, set_find, Opened, Numbered, Disjoint, Within, TakesSome, OfShare, GlobalAll, same_shares, Any, Old, New}
-use Rattle.proof_machines.proofs.net.Words.{ShareMsg, Shared_on, S_install, S_forward, S_get, S_sync, S_chunks, S_shared, olds, as_old, Sharing, IsSharing}
-use Rattle.proof_machines.proofs.net.Words.{OpenShare, find_share, set_share, Told, share_row, told_by, SharesStep, by_share, member_step, share_sends}
-use Rattle.proof_machines.proofs.net.Words.{arrive_sends, old_step, WholeWorld, moves_of, whole_inst, whole_ctrl, whole_switch, whole_input}
+use Rattle.proof_machines.proofs.net.Words.{ShareMsg, Shared_on, olds, as_old, Sharing, IsSharing, OpenShare, find_share, set_share, Told, share_row, told_by}
+use Rattle.proof_machines.proofs.net.Words.{SharesStep, by_share, member_step, share_sends, arrive_sends, old_step, WholeWorld, moves_of, whole_inst}
+use Rattle.proof_machines.proofs.net.Words.{whole_ctrl, whole_switch, whole_input}
 use Rattle.proof_machines.proofs.net.Every.{inst_global, ctrl_global, switch_global, input_global}
 use Rattle.proof_machines.proofs.net.AsMoves.{old_sends, old_sends-old, olds-put, no_olds-put, olds-after, news-after, no_olds-after, by_share_new, member_new}
 use Rattle.proof_machines.proofs.net.AsMoves.{ctrl_links}
@@ -23,11 +23,12 @@ module _ {R : Type 0} (S : Sys R) (A : Sharing S) (laws : IsSys S) where
 
   -- An instance
   chunk_of_share : (es : List OpenShare) (n p : ℕ) (o : Option R) → Opened es n (λ e. S.takes e.filter (S.packet_unit p) ≡ true)
-      → EachSentNew (OfShare S es) (option_map_or (λ r. (1, New (S_shared n (S.packet_unit p, r))) ∷ []) o [])
+      → EachSentNew (OfShare S es) (option_map_or (λ r. (1, New (ShareMsg.Shared n (S.packet_unit p, r))) ∷ []) o [])
   chunk_of_share es n p None h = tt
   chunk_of_share es n p (Some r) h = (record { share = h.share; found = h.found; says = h.says }, tt)
 
-  chunk_numbered : (b n p : ℕ) (o : Option R) → EachSentNew (λ _ m. Numbered b m) (option_map_or (λ r. (1, New (S_shared n (S.packet_unit p, r))) ∷ []) o [])
+  chunk_numbered : (b n p : ℕ) (o : Option R)
+      → EachSentNew (λ _ m. Numbered b m) (option_map_or (λ r. (1, New (ShareMsg.Shared n (S.packet_unit p, r))) ∷ []) o [])
   chunk_numbered b n p None = tt
   chunk_numbered b n p (Some r) = (tt, tt)
 
@@ -43,18 +44,18 @@ module _ {R : Type 0} (S : Sys R) (A : Sharing S) (laws : IsSys S) where
       → EachSentNew (OfShare S es) (member_step S A live standby m).sends
   member_of_share es live standby y (Shared_on n true p) h = chunk_of_share es n p (S.B.at (S.packet_unit p) (process S live p)) (taken es y n true p h)
   member_of_share es live standby y (Shared_on n false p) h = chunk_of_share es n p (S.B.at (S.packet_unit p) (process S standby p)) (taken es y n false p h)
-  member_of_share es live standby y (S_get n g) h =
+  member_of_share es live standby y (ShareMsg.Get n g) h =
       ((λ e there. let is : g ≡ e.filter = (h e there).0 in subst (λ f. Within S f (S.B.select (S.takes g) live)) is (selected_within g live)), tt)
-  member_of_share es live standby y (S_sync n true cs) h = (record { share = h.share; found = h.found; says = tt }, tt)
-  member_of_share es live standby y (S_sync n false cs) h = (record { share = h.share; found = h.found; says = tt }, tt)
+  member_of_share es live standby y (ShareMsg.Sync n true cs) h = (record { share = h.share; found = h.found; says = tt }, tt)
+  member_of_share es live standby y (ShareMsg.Sync n false cs) h = (record { share = h.share; found = h.found; says = tt }, tt)
   member_of_share es live standby y m h = tt
 
   member_numbered : (b : ℕ) (live standby : S.B.T) (m : ShareMsg R) → Numbered b m → EachSentNew (λ _ m. Numbered b m) (member_step S A live standby m).sends
   member_numbered b live standby (Shared_on n true p) h = chunk_numbered b n p (S.B.at (S.packet_unit p) (process S live p))
   member_numbered b live standby (Shared_on n false p) h = chunk_numbered b n p (S.B.at (S.packet_unit p) (process S standby p))
-  member_numbered b live standby (S_get n g) h = (h, tt)
-  member_numbered b live standby (S_sync n true cs) h = (tt, tt)
-  member_numbered b live standby (S_sync n false cs) h = (tt, tt)
+  member_numbered b live standby (ShareMsg.Get n g) h = (h, tt)
+  member_numbered b live standby (ShareMsg.Sync n true cs) h = (tt, tt)
+  member_numbered b live standby (ShareMsg.Sync n false cs) h = (tt, tt)
   member_numbered b live standby m h = tt
 
   pub inst_keeps : (w : WholeWorld S A) → GlobalAll S A w → (p y : ℕ) (m : Any R) (rest : List (Any R)) → (y == 0) ≡ false → w.link p y ≡ m ∷ rest
@@ -99,8 +100,8 @@ module _ {R : Type 0} (S : Sys R) (A : Sharing S) (laws : IsSys S) where
     numbers : EachSentNew (λ _ m. Numbered w.next m) s.sends
 
   sent_numbered : (e : OpenShare) (b j : ℕ) (m : Any R) → e.num < b → SentBy S A e (TakenBy S A e) (Within S e.filter) j m → OnNew (Numbered b) m
-  sent_numbered e b j (New (S_get n g)) few h = subst (λ k. k < b) (sym h.0) few
-  sent_numbered e b j (New (S_chunks n cs)) few h = absurd h
+  sent_numbered e b j (New (ShareMsg.Get n g)) few h = subst (λ k. k < b) (sym h.0) few
+  sent_numbered e b j (New (ShareMsg.Chunks n cs)) few h = absurd h
   sent_numbered e b j m few h = tt
 
   shares_ok : IsSharing S A → (w : WholeWorld S A) → GlobalAll S A w → (p : ℕ) (m : Any R) → OnNew (OfShare S w.shares 1) m
@@ -150,7 +151,7 @@ module _ {R : Type 0} (S : Sys R) (A : Sharing S) (laws : IsSys S) where
   head_of_share w g p k (New m) rest off waits = new_head (OfShare S w.shares) w.link g.messages p k m rest off waits
 
   ops_each : (P : Open R → Type 0)
-      → ((e : Open R) (ph : Rattle.proof_machines.proofs.unit.Real.RPhase R) (f : List ℕ) → P e → P (record e { phase = ph; store = f }))
+      → ((e : Open R) (ph : Rattle.proof_machines.proofs.unit.Real.MovePhase R) (f : List ℕ) → P e → P (record e { phase = ph; store = f }))
       → (es : List (Open R)) (p : ℕ) (m : Any R) → Each P es → Each P (old_step S A es p m).ops
   ops_each P step es p (Old m) h = ctrl_each P step es p m h
   ops_each P step es p (New m) h = h
@@ -197,19 +198,19 @@ module _ {R : Type 0} (S : Sys R) (A : Sharing S) (laws : IsSys S) where
   -- The switch
   fence_below : (w : WholeWorld S A) → GlobalAll S A w → (m : ShareMsg R) → OfShare S w.shares 0 m
       → EachSent (λ _ x. Below w.next x) (old_sends (share_sends S A m))
-  fence_below w g (S_install n f from) o =
+  fence_below w g (ShareMsg.Install n f from) o =
       let same : o.share.num ≡ n = (Decides-eqb o.share.num n).0 (found_num w.shares n o.share o.found) in
       (subst (λ k. k < w.next) same (found_each (λ e. e.num < w.next) w.shares n o.share g.shares_below o.found), tt)
   fence_below w g m o = tt
 
   forward_of_share : (es : List OpenShare) (m : ShareMsg R) → OfShare S es 0 m → EachSentNew (OfShare S es) (share_sends S A m)
-  forward_of_share es (S_forward n home p to) o = (record { share = o.share; found = o.found; says = (o.says.0, o.says.2) }, tt)
-  forward_of_share es (S_install n f from) o = (tt, tt)
+  forward_of_share es (ShareMsg.Forward n home p to) o = (record { share = o.share; found = o.found; says = (o.says.0, o.says.2) }, tt)
+  forward_of_share es (ShareMsg.Install n f from) o = (tt, tt)
   forward_of_share es m o = tt
 
   forward_numbered : (b : ℕ) (m : ShareMsg R) → EachSentNew (λ _ m. Numbered b m) (share_sends S A m)
-  forward_numbered b (S_forward n home p to) = (tt, tt)
-  forward_numbered b (S_install n f from) = (tt, tt)
+  forward_numbered b (ShareMsg.Forward n home p to) = (tt, tt)
+  forward_numbered b (ShareMsg.Install n f from) = (tt, tt)
   forward_numbered b m = tt
 
   pub switch_keeps : (w : WholeWorld S A) → GlobalAll S A w → (p : ℕ) (m : Any R) (rest : List (Any R)) → (p == 0) ≡ false → w.link p 0 ≡ m ∷ rest

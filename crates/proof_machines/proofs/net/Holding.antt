@@ -4,15 +4,14 @@ use Rattle.std.specs.Prelude.{if◌then◌else◌, ◌&&◌, ◌==◌}
 use Rattle.proof_machines.proofs.unit.Machine.{Where, At_a, At_b, At_c, Inst, Item, State, idle}
 use Rattle.proof_machines.proofs.unit.Lists.{firsts}
 use Rattle.proof_machines.proofs.unit.Real
-use Rattle.proof_machines.proofs.unit.Real.{record_at, M_enable, M_stream, M_delete, M_put, M_restore, M_event, M_piece, M_put_no, M_install, Op, Frame}
-use Rattle.proof_machines.proofs.unit.Real.{see_phase, only_mine}
+use Rattle.proof_machines.proofs.unit.Real.{record_at, MoveMsg, Op, Frame, see_phase, only_mine}
 use Rattle.proof_machines.proofs.unit.Seen.{NodesDiffer, frame_of}
 use Rattle.proof_machines.proofs.unit.Labels.{Each, Without, Clean}
 use Rattle.proof_machines.proofs.unit.Pairs.{Nodes, Sides, expect}
 use Rattle.proof_machines.proofs.unit.Rests.{is_over}
 use Rattle.std.specs.List.{filter, filter_map}
 use Rattle.flow_filter.specs.declared.filter.Filter.{Filter}
-use Rattle.proof_machines.proofs.net.Net.{Msg, Mv, Sys, is_free, Ruling, find_rule, rule_of, held_of, NumberedInstance, Open, find_op, World, seen}
+use Rattle.proof_machines.proofs.net.Net.{Msg, Of_move, Sys, is_free, Ruling, find_rule, rule_of, held_of, NumberedInstance, Open, find_op, World, seen}
 use Rattle.nf_function.specs.declared.unit.Unit as units
 use Rattle.record_table.specs.Table.{same_unit, is_among}
 
@@ -33,21 +32,21 @@ module _ {R : Type 0} (S : Sys R) (z : Seeing) where
   frame = frame_of z.op (λ p. same_unit (S.packet_unit p) z.unit) z.unit
 
   -- a message of another move has nothing of the unit, and a filter takes it where the number is its move's
-  abbrev pub MoveLabel : Filter → Real.Msg R → Type 0
-  MoveLabel g (M_enable n k) = (S.takes g z.unit ≡ (n == z.op.num)) × (is_free k ≡ false)
-  MoveLabel g (M_stream n) = S.takes g z.unit ≡ (n == z.op.num)
-  MoveLabel g (M_install n from to) = S.takes g z.unit ≡ (n == z.op.num)
-  MoveLabel g (M_event n p) = (same_unit (S.packet_unit p) z.unit) ≡ true → (n == z.op.num) ≡ true
-  MoveLabel g (M_delete n us) = (n == z.op.num) ≡ false → is_among us z.unit ≡ false
-  MoveLabel g (M_put n p first) = (n == z.op.num) ≡ false → Without z.unit p
-  MoveLabel g (M_restore n cs) = (n == z.op.num) ≡ false → record_at z.unit cs ≡ None
-  MoveLabel g (M_piece n p) = (n == z.op.num) ≡ false → Without z.unit p
-  MoveLabel g (M_put_no n why cs) = (n == z.op.num) ≡ false → record_at z.unit cs ≡ None
+  abbrev pub MoveLabel : Filter → MoveMsg R → Type 0
+  MoveLabel g (MoveMsg.Enable n k) = (S.takes g z.unit ≡ (n == z.op.num)) × (is_free k ≡ false)
+  MoveLabel g (MoveMsg.Stream n) = S.takes g z.unit ≡ (n == z.op.num)
+  MoveLabel g (MoveMsg.Install n from to) = S.takes g z.unit ≡ (n == z.op.num)
+  MoveLabel g (MoveMsg.Event n p) = (same_unit (S.packet_unit p) z.unit) ≡ true → (n == z.op.num) ≡ true
+  MoveLabel g (MoveMsg.Delete n us) = (n == z.op.num) ≡ false → is_among us z.unit ≡ false
+  MoveLabel g (MoveMsg.Put n p first) = (n == z.op.num) ≡ false → Without z.unit p
+  MoveLabel g (MoveMsg.Restore n cs) = (n == z.op.num) ≡ false → record_at z.unit cs ≡ None
+  MoveLabel g (MoveMsg.Piece n p) = (n == z.op.num) ≡ false → Without z.unit p
+  MoveLabel g (MoveMsg.Put_no n why cs) = (n == z.op.num) ≡ false → record_at z.unit cs ≡ None
   MoveLabel g m = Prim.Unit {0}
 
   -- the switch sends an instance no message of a move but packets and fences, and no packet comes from elsewhere than the input
   abbrev pub Label : ℕ → Msg R → Type 0
-  Label i (Mv g m) = ((i == 0) ≡ false) × MoveLabel g m
+  Label i (Of_move g m) = ((i == 0) ≡ false) × MoveLabel g m
   Label i m = Prim.Unit {0}
 
   abbrev pub RuleLabel : Ruling → Type 0

@@ -6,10 +6,10 @@ use Rattle.proof_machines.proofs.net.Words.{inst_does, Item, Stream, Put, State,
 use Rattle.proof_machines.proofs.net.Words.{firsts, map-append, ArePiecesOf, IsOrderedAs, Allowed, arrived_by, add, sent_for, some_parts, expect, after_take}
 use Rattle.proof_machines.proofs.net.Words.{a_from_s, a_from_c, b_from_s, b_from_c, c_from_s, nothing_seen, ShownBy, By_sa, By_sb, By_sc, By_ca, By_cb, By_ac}
 use Rattle.proof_machines.proofs.net.Words.{By_bc, By_cc, By_cs, shown_by, Each, UnitSeat, is_covered, seat_shape, seat_all, seat_loose, seat_goes_on}
-use Rattle.proof_machines.proofs.net.Words.{covered_stays, seat_allowed, base_of, filter_map, inst_next, Msg, In_packet, Asked, Carry_on, Pass_on, Fence_on, Mv}
-use Rattle.proof_machines.proofs.net.Words.{Sys, IsSys, NumberedInstance, InstanceTurn, inst_step, World, links_after, at_node, seen, find_op, Seeing, sides_of}
-use Rattle.proof_machines.proofs.net.Words.{EachSent, frame, Label, SeesNode, shows, node_at, done_of, Holds, IsController, sent, head, view_some, view_none}
-use Rattle.proof_machines.proofs.net.Words.{done_of-append, done_at, each_after, Answer, either_way, split, did_sends}
+use Rattle.proof_machines.proofs.net.Words.{covered_stays, seat_allowed, base_of, filter_map, inst_next, Msg, In_packet, Asked, Carry_on, Pass_on, Fence_on}
+use Rattle.proof_machines.proofs.net.Words.{Of_move, Sys, IsSys, NumberedInstance, InstanceTurn, inst_step, World, links_after, at_node, seen, find_op, Seeing}
+use Rattle.proof_machines.proofs.net.Words.{sides_of, EachSent, frame, Label, SeesNode, shows, node_at, done_of, Holds, IsController, sent, head, view_some}
+use Rattle.proof_machines.proofs.net.Words.{view_none, done_of-append, done_at, each_after, Answer, either_way, split, did_sends}
 use Rattle.proof_machines.proofs.unit.Machine.{Take_sc}
 use Rattle.proof_machines.proofs.unit.Stages.{shape}
 use Rattle.proof_machines.proofs.unit.Fresh.{taken_sa, taken_sb}
@@ -34,7 +34,7 @@ module _ {R : Type 0} (S : Sys R) (laws : IsSys S) (z : Seeing) where
   relabel y xs y0 h = each_map (λ x l. by_msg x.1 l) xs h
     where
       by_msg : (m : Msg R) → Label S z 1 m → Label S z y m
-      by_msg (Mv g m) l = (y0, l.1)
+      by_msg (Of_move g m) l = (y0, l.1)
       by_msg (In_packet p) l = tt
       by_msg (Asked a) l = tt
       by_msg (Carry_on p) l = tt
@@ -78,7 +78,7 @@ module _ {R : Type 0} (S : Sys R) (laws : IsSys S) (z : Seeing) where
     step_at wh k n (Carry_on q) l = Any (λ parts refuse. carry_goes S laws z num wh i k n q parts refuse)
     step_at wh k n (Pass_on q) l = Any (λ parts refuse. pass_goes S laws z num wh i k n q parts refuse)
     step_at wh k n (Fence_on q) l = Any (λ parts refuse. fence_goes S laws z num wh i k n q parts refuse)
-    step_at wh k n (Mv g q) l = move_goes S laws z num wh i k n g q l.1
+    step_at wh k n (Of_move g q) l = move_goes S laws z num wh i k n g q l.1
     step_at wh k n m l = Any (λ parts refuse. record { node = n; to_c = refl; others = λ j e. refl; labels = tt; ran = refl })
 
     -- from the switch none is of a move
@@ -87,7 +87,7 @@ module _ {R : Type 0} (S : Sys R) (laws : IsSys S) (z : Seeing) where
     plain_at wh k n (Carry_on q) l = carry_goes S laws z num wh i k n q [] None
     plain_at wh k n (Pass_on q) l = pass_goes S laws z num wh i k n q [] None
     plain_at wh k n (Fence_on q) l = fence_goes S laws z num wh i k n q [] None
-    plain_at wh k n (Mv g q) l = let never = l.0 in cc
+    plain_at wh k n (Of_move g q) l = let never = l.0 in cc
     plain_at wh k n m l = record { node = n; to_c = refl; others = λ j e. refl; labels = tt; ran = refl }
 
     -- a state of the machine whose instance y did that, and whose links are these

@@ -3,11 +3,10 @@ use Rattle.proof_machines.proofs.EachLaws.{each_made}
 use Rattle.proof_machines.proofs.net.Net.{everything}
 use Rattle.proof_machines.proofs.unit.SeenInst.{put_answers}
 use Rattle.proof_machines.proofs.net.Words.{◌≡◌, ℕ, Bool, true, false, Option, Some, None, List, [], ◌∷◌, map, length, refl, sym, ap, ◌∙◌, subst, arith}
-use Rattle.proof_machines.proofs.net.Words.{if◌then◌else◌, ◌==◌, nat_tests, Free, Drops, Buffers, RPiece, M_enable, M_stream, M_delete, M_put, M_restore}
-use Rattle.proof_machines.proofs.net.Words.{M_piece, M_fenced, M_install, M_fence_to, where_true, add, sent_for, marks, chop, Carry, Fence, Fenced}
-use Rattle.proof_machines.proofs.net.Words.{Stray, member_does, Filter, Msg, Carry_on, Pass_on, Fence_on, Mv, Sys, IsSys, Ruling, first_rule, to_ctrl}
-use Rattle.proof_machines.proofs.net.Words.{NumberedInstance, by_kind, by_rule, on_move, inst_step, EachSent, NothingOf, mine, unit_share, move_seen, old_seen}
-use Rattle.proof_machines.proofs.net.Words.{share_items, own_of, Old, as_old, Sharing, SeeingShare, split}
+use Rattle.proof_machines.proofs.net.Words.{if◌then◌else◌, ◌==◌, nat_tests, Free, Drops, Buffers, MovePiece, MoveMsg, where_true, add, sent_for, marks, chop}
+use Rattle.proof_machines.proofs.net.Words.{Carry, Fence, Fenced, Stray, member_does, Filter, Msg, Carry_on, Pass_on, Fence_on, Of_move, Sys, IsSys, Ruling}
+use Rattle.proof_machines.proofs.net.Words.{first_rule, to_ctrl, NumberedInstance, by_kind, by_rule, on_move, inst_step, EachSent, NothingOf, mine, unit_share}
+use Rattle.proof_machines.proofs.net.Words.{move_seen, old_seen, share_items, own_of, Old, as_old, Sharing, SeeingShare, split}
 use Rattle.proof_machines.proofs.unit.Real
 use Rattle.proof_machines.proofs.share.Share as share
 use Rattle.proof_machines.proofs.share.Share.{Item, Did}
@@ -24,18 +23,18 @@ module _ {R : Type 0} (S : Sys R) (A : Sharing S) (z : SeeingShare) where
   unseen_view (x ∷ xs) h r = elim (x.0 == r) as (λ b. share_items S A z r (if b then Old x.1 ∷ sent_for r (as_old xs) else sent_for r (as_old xs)) ≡ [])
       [ true ↦ ap (λ o. add o (share_items S A z r (sent_for r (as_old xs)))) h.0 ∙ unseen_view xs h.1 r | false ↦ unseen_view xs h.1 r ]
 
-  pieces_unseen : (n : ℕ) (ps : List (RPiece R)) → Unseen (map to_ctrl (map (λ p. M_piece n p) ps))
+  pieces_unseen : (n : ℕ) (ps : List (MovePiece R)) → Unseen (map to_ctrl (map (λ p. MoveMsg.Piece n p) ps))
   pieces_unseen n [] = tt
   pieces_unseen n (p ∷ ps) = (refl, pieces_unseen n ps)
 
-  move_unseen : (i : NumberedInstance S) (g : Filter) (m : Real.Msg R) → Unseen (on_move S i g m).sends
-  move_unseen i g (M_enable n k) = (refl, tt)
-  move_unseen i g (M_stream n) = pieces_unseen n (marks (length (S.B.select (S.takes g) i.live)) (S.newest (S.B.select (S.takes g) i.live))
+  move_unseen : (i : NumberedInstance S) (g : Filter) (m : MoveMsg R) → Unseen (on_move S i g m).sends
+  move_unseen i g (MoveMsg.Enable n k) = (refl, tt)
+  move_unseen i g (MoveMsg.Stream n) = pieces_unseen n (marks (length (S.B.select (S.takes g) i.live)) (S.newest (S.B.select (S.takes g) i.live))
       (chop (length (S.B.select (S.takes g) i.live)) (S.B.select (S.takes g) i.live)))
-  move_unseen i g (M_delete n us) = (refl, tt)
-  move_unseen i g (M_put n p first) = each_made _ to_ctrl (λ _ k. k) _
-      (put_answers S.F S.B (λ m. old_seen S A z (Mv everything m) ≡ None) n first (S.refuse i.room i.live p) p i.live refl (λ _. refl))
-  move_unseen i g (M_restore n cs) = (refl, tt)
+  move_unseen i g (MoveMsg.Delete n us) = (refl, tt)
+  move_unseen i g (MoveMsg.Put n p first) = each_made _ to_ctrl (λ _ k. k) _
+      (put_answers S.F S.B (λ m. old_seen S A z (Of_move everything m) ≡ None) n first (S.refuse i.room i.live p) p i.live refl (λ _. refl))
+  move_unseen i g (MoveMsg.Restore n cs) = (refl, tt)
   move_unseen i g m = tt
 
   carry_unseen : (i : NumberedInstance S) (p : ℕ) (o : Option Ruling) → Unseen (by_rule S i p o).sends
@@ -56,7 +55,7 @@ module _ {R : Type 0} (S : Sys R) (A : Sharing S) (z : SeeingShare) where
       let h = carry_unseen i p (first_rule S (S.packet_unit p) i.rules) in
       record { to_c = unseen_view (inst_step S i (Carry_on p)).sends h 1; others = λ r _. unseen_view (inst_step S i (Carry_on p)).sends h r }
   answers i (Fence_on n) = record { to_c = refl; others = λ r off. let other : (1 == r) ≡ false = grind (arith, nat_tests) in rw other refl }
-  answers i (Mv g m) =
+  answers i (Of_move g m) =
       record { to_c = unseen_view (on_move S i g m).sends (move_unseen i g m) 1; others = λ r _. unseen_view (on_move S i g m).sends (move_unseen i g m) r }
   answers i m = record { to_c = refl; others = λ r _. refl }
 
@@ -102,10 +101,10 @@ module _ {R : Type 0} (S : Sys R) (A : Sharing S) (z : SeeingShare) where
     quiet_if true it e = e
     quiet_if false it e = refl
 
-    move_idle : (m : Real.Msg R) → does S A laws z y own (move_seen S A z m) ≡ as_was S A laws z own
-    move_idle (M_fenced n) = quiet_if (n == z.num) Fenced refl
-    move_idle (M_install n from to) = quiet_if (n == z.num) Stray refl
-    move_idle (M_fence_to n to) = quiet_if (n == z.num) Stray refl
+    move_idle : (m : MoveMsg R) → does S A laws z y own (move_seen S A z m) ≡ as_was S A laws z own
+    move_idle (MoveMsg.Fenced n) = quiet_if (n == z.num) Fenced refl
+    move_idle (MoveMsg.Install n from to) = quiet_if (n == z.num) Stray refl
+    move_idle (MoveMsg.Fence_to n to) = quiet_if (n == z.num) Stray refl
     move_idle m = refl
 
     fence : (n : ℕ) (b : Bool) → (n == z.num) ≡ b → LeavesInstance S laws z.unit i (inst_step S i (Fence_on n)) []
@@ -122,5 +121,6 @@ module _ {R : Type 0} (S : Sys R) (A : Sharing S) (z : SeeingShare) where
         (λ _ g. quiet (Carry_on p) (as_was S A laws z own) g refl refl refl) h
     moves_sees k (Pass_on p) h off home = rw off (quiet (Pass_on p) (as_was S A laws z own) h refl refl refl)
     moves_sees k (Fence_on n) h l home = fence n (n == z.num) refl h
-    moves_sees k (Mv g m) h l home = let e = move_idle m in subst (λ d. Sees (Mv g m) d) (sym e) (quiet (Mv g m) (as_was S A laws z own) h refl refl refl)
+    moves_sees k (Of_move g m) h l home = let e =
+        move_idle m in subst (λ d. Sees (Of_move g m) d) (sym e) (quiet (Of_move g m) (as_was S A laws z own) h refl refl refl)
     moves_sees k m h l home = quiet m (as_was S A laws z own) h refl refl refl

@@ -4,8 +4,8 @@ use Rattle.proof_machines.proofs.net.Words.{option_to_list, option_map_or, nat_t
 use Rattle.proof_machines.proofs.net.Words.{first_of_one, record_first, Shared, Diverted, Install, Forward, Get, Sync, Chunk, Synced, Stray, UnitShare}
 use Rattle.proof_machines.proofs.net.Words.{member_does, stepped, chunk_of, if_mine, over, Filter, Sys, IsSys, NumberedInstance, process, inst_step, at_node}
 use Rattle.proof_machines.proofs.net.Words.{none_mine, mine, unit_share, fit, new_seen, share_items, own_of, Any, Old, New, ShareMsg, Shared_on, Diverted_on}
-use Rattle.proof_machines.proofs.net.Words.{S_asked, S_install, S_forward, S_get, S_sync, S_chunks, S_shared, S_synced, same, as_old, Sharing, IsSharing}
-use Rattle.proof_machines.proofs.net.Words.{shared_chunk, MemberTurn, member_step, ran_of, SeeingShare, same_unit_equiv, same_unit-true, split}
+use Rattle.proof_machines.proofs.net.Words.{same, as_old, Sharing, IsSharing, shared_chunk, MemberTurn, member_step, ran_of, SeeingShare, same_unit_equiv}
+use Rattle.proof_machines.proofs.net.Words.{same_unit-true, split}
 use Rattle.proof_machines.proofs.unit.Real
 use Rattle.proof_machines.proofs.share.Share.{Item, Item.Chunks, Did}
 use Rattle.proof_machines.proofs.share.Share as share
@@ -74,12 +74,12 @@ module _ {R : Type 0} (S : Sys R) (A : Sharing S) (laws : IsSys S) (z : SeeingSh
 
   -- the chunk of a packet
   chunk_sent : (n p : ℕ) (t : S.B.T)
-      → shared_chunk S A n p (process S t p) ≡ (1, New (S_shared n (S.packet_unit p, S.F.step (S.B.at (S.packet_unit p) t) p))) ∷ []
+      → shared_chunk S A n p (process S t p) ≡ (1, New (ShareMsg.Shared n (S.packet_unit p, S.F.step (S.B.at (S.packet_unit p) t) p))) ∷ []
   chunk_sent n p t =
       let self = same_unit_equiv.refl (S.packet_unit p) in
       let is : S.B.at (S.packet_unit p) (process S t p) ≡ Some (S.F.step (S.B.at (S.packet_unit p) t) p) =
       laws.written (S.packet_unit p) (S.packet_unit p) (S.F.step (S.B.at (S.packet_unit p) t) p) t ∙ rw self refl in
-      ap (λ o. option_map_or (λ r. (1, New (S_shared n (S.packet_unit p, r))) ∷ []) o []) is
+      ap (λ o. option_map_or (λ r. (1, New (ShareMsg.Shared n (S.packet_unit p, r))) ∷ []) o []) is
 
   chunk_seen : (y p : ℕ) (t : S.B.T)
       → record_at z.unit ((S.packet_unit p, S.F.step (S.B.at (S.packet_unit p) t) p) ∷ []) ≡ chunk_of f p (stepped f y (S.B.at z.unit t) p)
@@ -111,7 +111,7 @@ module _ {R : Type 0} (S : Sys R) (A : Sharing S) (laws : IsSys S) (z : SeeingSh
 
     shared_others : (n p : ℕ) (t : S.B.T) (r : ℕ) → (r == 1) ≡ false → share_items S A z r (sent_for r (shared_chunk S A n p (process S t p))) ≡ []
     shared_others n p t r off = ap (λ xs. share_items S A z r (sent_for r xs)) (chunk_sent n p t)
-        ∙ not_others (New (S_shared n (S.packet_unit p, S.F.step (S.B.at (S.packet_unit p) t) p))) r off
+        ∙ not_others (New (ShareMsg.Shared n (S.packet_unit p, S.F.step (S.B.at (S.packet_unit p) t) p))) r off
 
     shared_home : (n p : ℕ) → (n == z.num) ≡ true → (y == z.home) ≡ true → Sees (Shared_on n true p) (Some (Shared p))
     shared_home n p on here = record {
@@ -166,14 +166,14 @@ module _ {R : Type 0} (S : Sys R) (A : Sharing S) (laws : IsSys S) (z : SeeingSh
         (λ away. let off = l.1 away in rw off (shared_else n p home away off))
 
     sync_own : (n : ℕ) (home : Bool) (cs : Real.Chunks R) → (n == z.num) ≡ true → same home (y == z.home) ≡ true
-        → Sees (S_sync n home cs) (Some (Sync (record_at z.unit cs)))
+        → Sees (ShareMsg.Sync n home cs) (Some (Sync (record_at z.unit cs)))
     sync_own n true cs on flag =
         let here = same_true (y == z.home) flag in
         record {
           own = rw here (ok.replaced z.unit cs live);
           away = λ off. absurd (both_ways (y == z.home) off here);
           to_c = rw on refl;
-          others = λ r off. not_others (New (S_synced n)) r off;
+          others = λ r off. not_others (New (ShareMsg.Synced n)) r off;
           ran = refl;
         }
     sync_own n false cs on flag =
@@ -182,32 +182,33 @@ module _ {R : Type 0} (S : Sys R) (A : Sharing S) (laws : IsSys S) (z : SeeingSh
           own = rw there (ok.replaced z.unit cs standby);
           away = λ _. refl;
           to_c = rw on refl;
-          others = λ r off. not_others (New (S_synced n)) r off;
+          others = λ r off. not_others (New (ShareMsg.Synced n)) r off;
           ran = refl;
         }
 
     over_none : (cs : Real.Chunks R) (t : S.B.T) → record_at z.unit cs ≡ None → S.B.at z.unit (A.replace cs t) ≡ S.B.at z.unit t
     over_none cs t none = ok.replaced z.unit cs t ∙ ap (λ o. over o (S.B.at z.unit t)) none
 
-    sync_else : (n : ℕ) (home : Bool) (cs : Real.Chunks R) → (n == z.num) ≡ false → record_at z.unit cs ≡ None → Sees (S_sync n home cs) None
+    sync_else : (n : ℕ) (home : Bool) (cs : Real.Chunks R) → (n == z.num) ≡ false → record_at z.unit cs ≡ None → Sees (ShareMsg.Sync n home cs) None
     sync_else n true cs away none = record {
       own = own_live (y == z.home) (A.replace cs live) (over_none cs live none);
       away = λ _. over_none cs live none;
       to_c = rw away refl;
-      others = λ r off. not_others (New (S_synced n)) r off;
+      others = λ r off. not_others (New (ShareMsg.Synced n)) r off;
       ran = refl;
     }
     sync_else n false cs away none = record {
       own = own_standby (y == z.home) (A.replace cs standby) (over_none cs standby none);
       away = λ _. refl;
       to_c = rw away refl;
-      others = λ r off. not_others (New (S_synced n)) r off;
+      others = λ r off. not_others (New (ShareMsg.Synced n)) r off;
       ran = refl;
     }
 
-    sync_sees : (n : ℕ) (home : Bool) (cs : Real.Chunks R) → ShareLabel S A z y (S_sync n home cs)
-        → Sees (S_sync n home cs) (new_seen S A z y (S_sync n home cs))
-    sync_sees n home cs l = split (n == z.num) (λ b. Sees (S_sync n home cs) (where_true b (fit S A z (same home (y == z.home)) (Sync (record_at z.unit cs)))))
+    sync_sees : (n : ℕ) (home : Bool) (cs : Real.Chunks R) → ShareLabel S A z y (ShareMsg.Sync n home cs)
+        → Sees (ShareMsg.Sync n home cs) (new_seen S A z y (ShareMsg.Sync n home cs))
+    sync_sees n home cs l = split (n ==
+        z.num) (λ b. Sees (ShareMsg.Sync n home cs) (where_true b (fit S A z (same home (y == z.home)) (Sync (record_at z.unit cs)))))
         (λ on. let flag = l.0 on in rw flag (sync_own n home cs on flag))
         (λ away. sync_else n home cs away (l.1 away))
 
@@ -217,8 +218,9 @@ module _ {R : Type 0} (S : Sys R) (A : Sharing S) (laws : IsSys S) (z : SeeingSh
         ∙ ap first (laws.laws.selected z.unit (S.takes g) live ∙ ap (λ b. option_to_list (if b then S.B.at z.unit live else None)) takes)
         ∙ first_of_one (S.B.at z.unit live)
 
-    get_sees : (n : ℕ) (g : Filter) → S.takes z.filter z.unit ≡ true → ShareLabel S A z y (S_get n g) → Sees (S_get n g) (new_seen S A z y (S_get n g))
-    get_sees n g covered l = split (n == z.num) (λ b. Sees (S_get n g) (where_true b Get))
+    get_sees : (n : ℕ) (g : Filter) → S.takes z.filter z.unit ≡ true → ShareLabel S A z y (ShareMsg.Get n g)
+        → Sees (ShareMsg.Get n g) (new_seen S A z y (ShareMsg.Get n g))
+    get_sees n g covered l = split (n == z.num) (λ b. Sees (ShareMsg.Get n g) (where_true b Get))
         (λ on.
         let k = l on in
         let here : (y == z.home) ≡ true = (Decides-eqb y z.home).1 k.0 in
@@ -228,14 +230,14 @@ module _ {R : Type 0} (S : Sys R) (A : Sharing S) (laws : IsSys S) (z : SeeingSh
           away = λ _. refl;
           to_c = ap (λ b. add (where_true b (Chunks (record_at z.unit (S.B.select (S.takes g) live)))) []) on ∙ ap (λ o. Chunks o ∷ []) (selected g takes)
               ∙ rw here refl;
-          others = λ r off. not_others (New (S_chunks n (S.B.select (S.takes g) live))) r off;
+          others = λ r off. not_others (New (ShareMsg.Chunks n (S.B.select (S.takes g) live))) r off;
           ran = refl;
         })
         (λ away. record {
           own = refl;
           away = λ _. refl;
           to_c = rw away refl;
-          others = λ r off. not_others (New (S_chunks n (S.B.select (S.takes g) live))) r off;
+          others = λ r off. not_others (New (ShareMsg.Chunks n (S.B.select (S.takes g) live))) r off;
           ran = refl;
         })
 
@@ -260,14 +262,15 @@ module _ {R : Type 0} (S : Sys R) (A : Sharing S) (laws : IsSys S) (z : SeeingSh
 
     pub member_sees : S.takes z.filter z.unit ≡ true → (m : ShareMsg R) → ShareLabel S A z y m → Sees m (new_seen S A z y m)
     member_sees covered (Shared_on n home p) l = shared_sees n p home l
-    member_sees covered (S_sync n home cs) l = sync_sees n home cs l
-    member_sees covered (S_get n g) l = get_sees n g covered l
+    member_sees covered (ShareMsg.Sync n home cs) l = sync_sees n home cs l
+    member_sees covered (ShareMsg.Get n g) l = get_sees n g covered l
     member_sees covered (Diverted_on p) l = idles (new_seen S A z y (Diverted_on p)) (idle_else (S.takes z.filter (S.packet_unit p)) p (Diverted p) refl)
-    member_sees covered (S_asked x) l = idles None refl
-    member_sees covered (S_install n g from) l =
-        idles (new_seen S A z y (S_install n g from)) (idle_if (n == z.num) (fit S A z (from == z.home) Install) (idle_fit (from == z.home) Install refl))
-    member_sees covered (S_forward n home p to) l = idles (new_seen S A z y (S_forward n home p to))
+    member_sees covered (ShareMsg.Asked x) l = idles None refl
+    member_sees covered (ShareMsg.Install n g from) l =
+        idles (new_seen S A z y (ShareMsg.Install n g from))
+            (idle_if (n == z.num) (fit S A z (from == z.home) Install) (idle_fit (from == z.home) Install refl))
+    member_sees covered (ShareMsg.Forward n home p to) l = idles (new_seen S A z y (ShareMsg.Forward n home p to))
         (idle_else (n == z.num) p (fit S A z (same home (to == z.home)) (Forward p to)) (idle_fit (same home (to == z.home)) (Forward p to) refl))
-    member_sees covered (S_chunks n cs) l = idles (new_seen S A z y (S_chunks n cs)) (idle_if (n == z.num) (Chunks (record_at z.unit cs)) refl)
-    member_sees covered (S_shared n c) l = idles (new_seen S A z y (S_shared n c)) (idle_if (n == z.num) (Chunk (record_at z.unit (c ∷ []))) refl)
-    member_sees covered (S_synced n) l = idles (new_seen S A z y (S_synced n)) (idle_if (n == z.num) Synced refl)
+    member_sees covered (ShareMsg.Chunks n cs) l = idles (new_seen S A z y (ShareMsg.Chunks n cs)) (idle_if (n == z.num) (Chunks (record_at z.unit cs)) refl)
+    member_sees covered (ShareMsg.Shared n c) l = idles (new_seen S A z y (ShareMsg.Shared n c)) (idle_if (n == z.num) (Chunk (record_at z.unit (c ∷ []))) refl)
+    member_sees covered (ShareMsg.Synced n) l = idles (new_seen S A z y (ShareMsg.Synced n)) (idle_if (n == z.num) Synced refl)

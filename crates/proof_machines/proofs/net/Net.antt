@@ -7,15 +7,14 @@ use Rattle.std.specs.List.{find, fold, list_any}
 use Rattle.proof_machines.proofs.NumberedLists.{find_number, drop_number, change_number}
 use Rattle.proof_machines.proofs.unit.Machine.{Steps, Rule, Free, Drops, Buffers, Item, Carry, Pass, Fence}
 use Rattle.proof_machines.proofs.unit.Real
-use Rattle.proof_machines.proofs.unit.Real.{Chunks, RPiece, M_enable, M_stream, M_delete, M_put, M_restore, M_enabled, M_event, M_piece, M_deleted, M_put_ok}
-use Rattle.proof_machines.proofs.unit.Real.{M_put_no, M_restored, M_fenced, M_forward, M_install, M_fence_to, RPhase, Op, OperationTurn, r_goes, r_from_source}
-use Rattle.proof_machines.proofs.unit.Real.{r_from_destination, Frame, where_true, sent_for}
+use Rattle.proof_machines.proofs.unit.Real.{Chunks, MovePiece, MoveMsg, MovePhase, Op, OperationTurn, operation_turn, operation_from_source}
+use Rattle.proof_machines.proofs.unit.Real.{operation_from_destination, Frame, where_true, sent_for}
 use Rattle.move_op.specs.Phases.{Freezing, Over}
 use Rattle.nf_msgs.specs.declared.answer.Answer.{Answer}
 use Rattle.nf_function.specs.declared.unit.Unit as units
 use Rattle.record_table.specs.Table.{same_unit}
 use Rattle.flow_filter.specs.declared.filter.Filter.{Filter}
-use Rattle.proof_machines.proofs.unit.SeenInst.{Tables, Laws, r_stream, r_delete, r_restore, r_put}
+use Rattle.proof_machines.proofs.unit.SeenInst.{Tables, Laws, stream_row, delete_row, restore_row, put_row}
 
 -- what is asked for
 pub record MoveAsked : Type 0 where
@@ -31,7 +30,7 @@ pub data Msg (R : Type 0) : Type 0 where
   Carry_on : ℕ → Msg R
   Pass_on : ℕ → Msg R
   Fence_on : ℕ → Msg R
-  Mv : (g : Filter) (m : Real.Msg R) → Msg R
+  Of_move : (g : Filter) (m : MoveMsg R) → Msg R
 
 -- how many records an instance takes, and whether it reads chunks of version 1 alone
 pub record Room : Type 0 where
@@ -46,7 +45,7 @@ pub record Sys (R : Type 0) : Type 1 where
   pub takes : Filter → units.Unit → Bool
   pub meets : Filter → Filter → Bool
   pub newest : Chunks R → ℕ
-  pub refuse : Room → B.T → RPiece R → Option Answer
+  pub refuse : Room → B.T → MovePiece R → Option Answer
   pub write : units.Unit → R → B.T → B.T
   pub empty : B.T
 
@@ -110,8 +109,8 @@ abbrev pub held_of : Option Ruling → List ℕ
 held_of None = []
 held_of (Some r) = r.held
 
-abbrev pub to_ctrl : {R : Type 0} → Real.Msg R → ℕ × Msg R
-to_ctrl m = (1, Mv everything m)
+abbrev pub to_ctrl : {R : Type 0} → MoveMsg R → ℕ × Msg R
+to_ctrl m = (1, Of_move everything m)
 
 module _ {R : Type 0} (S : Sys R) where
   pub record NumberedInstance : Type 0 where
@@ -139,107 +138,108 @@ module _ {R : Type 0} (S : Sys R) where
 
   abbrev pub by_kind : NumberedInstance → ℕ → ℕ → Rule → InstanceTurn
   by_kind i p n Free = runs_it i p
-  by_kind i p n Drops = says i (to_ctrl (M_event n p) ∷ [])
+  by_kind i p n Drops = says i (to_ctrl (MoveMsg.Event n p) ∷ [])
   by_kind i p n Buffers = says (record i { rules = hold n p i.rules }) []
 
   abbrev pub by_rule : NumberedInstance → ℕ → Option Ruling → InstanceTurn
   by_rule i p None = runs_it i p
   by_rule i p (Some r) = by_kind i p r.num r.rule
 
-  abbrev pub with_table : NumberedInstance → S.B.T × List (Real.Msg R) → InstanceTurn
+  abbrev pub with_table : NumberedInstance → S.B.T × List (MoveMsg R) → InstanceTurn
   with_table i x = says (record i { live = x.0 }) (map to_ctrl x.1)
 
-  abbrev pub on_move : NumberedInstance → Filter → Real.Msg R → InstanceTurn
-  on_move i g (M_enable n k) = says (record i { rules = set_rule n g k i.rules }) (to_ctrl (M_enabled n) ∷ [])
-  on_move i g (M_stream n) =
-      with_table i (r_stream S.F S.B n (length (S.B.select (S.takes g) i.live)) (S.newest (S.B.select (S.takes g) i.live)) (S.takes g) i.live)
-  on_move i g (M_delete n us) = with_table i (r_delete S.F S.B n us i.live)
-  on_move i g (M_put n p first) = with_table i (r_put S.F S.B n first (S.refuse i.room i.live p) p i.live)
-  on_move i g (M_restore n cs) = with_table i (r_restore S.F S.B n cs i.live)
+  abbrev pub on_move : NumberedInstance → Filter → MoveMsg R → InstanceTurn
+  on_move i g (MoveMsg.Enable n k) = says (record i { rules = set_rule n g k i.rules }) (to_ctrl (MoveMsg.Enabled n) ∷ [])
+  on_move i g (MoveMsg.Stream n) =
+      with_table i (stream_row S.F S.B n (length (S.B.select (S.takes g) i.live)) (S.newest (S.B.select (S.takes g) i.live)) (S.takes g) i.live)
+  on_move i g (MoveMsg.Delete n us) = with_table i (delete_row S.F S.B n us i.live)
+  on_move i g (MoveMsg.Put n p first) = with_table i (put_row S.F S.B n first (S.refuse i.room i.live p) p i.live)
+  on_move i g (MoveMsg.Restore n cs) = with_table i (restore_row S.F S.B n cs i.live)
   on_move i g m = says i []
 
   abbrev pub fenced : NumberedInstance → ℕ → List ℕ → InstanceTurn
-  fenced i n h = record { node = record i { live = process_all i.live h; rules = drop_rule n i.rules }; sends = to_ctrl (M_fenced n) ∷ []; ran = h }
+  fenced i n h = record { node = record i { live = process_all i.live h; rules = drop_rule n i.rules }; sends = to_ctrl (MoveMsg.Fenced n) ∷ []; ran = h }
 
   abbrev pub inst_step : NumberedInstance → Msg R → InstanceTurn
   inst_step i (Carry_on p) = by_rule i p (first_rule S (S.packet_unit p) i.rules)
   inst_step i (Pass_on p) = runs_it i p
   inst_step i (Fence_on n) = fenced i n (held_of (find_rule n i.rules))
-  inst_step i (Mv g m) = on_move i g m
+  inst_step i (Of_move g m) = on_move i g m
   inst_step i m = says i []
 
 -- the controller
 pub record Open (R : Type 0) : Type 0 where
   pub op : Op
   pub filter : Filter
-  pub phase : RPhase R
+  pub phase : MovePhase R
   pub store : List ℕ
 
 abbrev pub find_op : {R : Type 0} → List (Open R) → ℕ → Option (Open R)
 find_op es n = find_number (λ (e : Open _). e.op.num) n es
 
-abbrev pub written : {R : Type 0} → RPhase R → List ℕ → Open R → Open R
+abbrev pub written : {R : Type 0} → MovePhase R → List ℕ → Open R → Open R
 written ph f e = record e { phase = ph; store = f }
 
-abbrev pub set_op : {R : Type 0} → ℕ → RPhase R → List ℕ → List (Open R) → List (Open R)
+abbrev pub set_op : {R : Type 0} → ℕ → MovePhase R → List ℕ → List (Open R) → List (Open R)
 set_op n ph f es = change_number (λ (e : Open _). e.op.num) n (written ph f) es
 
 abbrev pub close_op : {R : Type 0} → ℕ → List (Open R) → List (Open R)
 close_op n es = drop_number (λ (e : Open _). e.op.num) n es
 
-abbrev pub write_op : {R : Type 0} → ℕ → RPhase R → List ℕ → List (Open R) → List (Open R)
+abbrev pub write_op : {R : Type 0} → ℕ → MovePhase R → List ℕ → List (Open R) → List (Open R)
 write_op n (Over why) f es = close_op n es
 write_op n ph f es = set_op n ph f es
 
-abbrev pub num_of : {R : Type 0} → Real.Msg R → Option ℕ
-num_of (M_enable n k) = Some n
-num_of (M_stream n) = Some n
-num_of (M_delete n us) = Some n
-num_of (M_put n p first) = Some n
-num_of (M_restore n cs) = Some n
-num_of (M_enabled n) = Some n
-num_of (M_event n p) = Some n
-num_of (M_piece n p) = Some n
-num_of (M_deleted n) = Some n
-num_of (M_put_ok n) = Some n
-num_of (M_put_no n why cs) = Some n
-num_of (M_restored n) = Some n
-num_of (M_fenced n) = Some n
-num_of (M_forward p to) = None
-num_of (M_install n from to) = Some n
-num_of (M_fence_to n to) = Some n
+abbrev pub num_of : {R : Type 0} → MoveMsg R → Option ℕ
+num_of (MoveMsg.Enable n k) = Some n
+num_of (MoveMsg.Stream n) = Some n
+num_of (MoveMsg.Delete n us) = Some n
+num_of (MoveMsg.Put n p first) = Some n
+num_of (MoveMsg.Restore n cs) = Some n
+num_of (MoveMsg.Enabled n) = Some n
+num_of (MoveMsg.Event n p) = Some n
+num_of (MoveMsg.Piece n p) = Some n
+num_of (MoveMsg.Deleted n) = Some n
+num_of (MoveMsg.Put_ok n) = Some n
+num_of (MoveMsg.Put_no n why cs) = Some n
+num_of (MoveMsg.Restored n) = Some n
+num_of (MoveMsg.Fenced n) = Some n
+num_of (MoveMsg.Forward p to) = None
+num_of (MoveMsg.Install n from to) = Some n
+num_of (MoveMsg.Fence_to n to) = Some n
 
 -- the row by the sender
-abbrev pub row_of : {R : Type 0} → Op → RPhase R → List ℕ → ℕ → Real.Msg R → OperationTurn R
-row_of o ph f port m = if port == o.src then r_from_source o ph f m else if port == o.dst then r_from_destination o ph f m else r_goes ph f []
+abbrev pub row_of : {R : Type 0} → Op → MovePhase R → List ℕ → ℕ → MoveMsg R → OperationTurn R
+row_of o ph f port m = if port == o.src then operation_from_source o ph f m else if port ==
+    o.dst then operation_from_destination o ph f m else operation_turn ph f []
 
-abbrev pub row : {R : Type 0} → Open R → ℕ → Real.Msg R → OperationTurn R
+abbrev pub row : {R : Type 0} → Open R → ℕ → MoveMsg R → OperationTurn R
 row e port m = row_of e.op e.phase e.store port m
 
 -- what a move sends carries its filter, where the receiver looks at it
-abbrev pub filter_for : {R : Type 0} → Filter → Real.Msg R → Filter
-filter_for g (M_enable n k) = g
-filter_for g (M_stream n) = g
-filter_for g (M_install n from to) = g
+abbrev pub filter_for : {R : Type 0} → Filter → MoveMsg R → Filter
+filter_for g (MoveMsg.Enable n k) = g
+filter_for g (MoveMsg.Stream n) = g
+filter_for g (MoveMsg.Install n from to) = g
 filter_for g m = everything
 
-abbrev pub wrap : {R : Type 0} → Filter → List (ℕ × Real.Msg R) → List (ℕ × Msg R)
-wrap g xs = map (λ x. (x.0, Mv (filter_for g x.1) x.1)) xs
+abbrev pub wrap : {R : Type 0} → Filter → List (ℕ × MoveMsg R) → List (ℕ × Msg R)
+wrap g xs = map (λ x. (x.0, Of_move (filter_for g x.1) x.1)) xs
 
 pub record ControllerMove (R : Type 0) : Type 0 where
   pub ops : List (Open R)
   pub sends : List (ℕ × Msg R)
 
-abbrev pub found : {R : Type 0} → List (Open R) → ℕ → ℕ → Real.Msg R → Option (Open R) → ControllerMove R
+abbrev pub found : {R : Type 0} → List (Open R) → ℕ → ℕ → MoveMsg R → Option (Open R) → ControllerMove R
 found es n port m None = record { ops = es; sends = [] }
 found es n port m (Some e) = record { ops = write_op n (row e port m).phase (row e port m).store es; sends = wrap e.filter (row e port m).sends }
 
-abbrev pub numbered : {R : Type 0} → List (Open R) → ℕ → Real.Msg R → Option ℕ → ControllerMove R
+abbrev pub numbered : {R : Type 0} → List (Open R) → ℕ → MoveMsg R → Option ℕ → ControllerMove R
 numbered es port m None = record { ops = es; sends = [] }
 numbered es port m (Some n) = found es n port m (find_op es n)
 
 abbrev pub ctrl_step : {R : Type 0} → List (Open R) → ℕ → Msg R → ControllerMove R
-ctrl_step es port (Mv g m) = numbered es port m (num_of m)
+ctrl_step es port (Of_move g m) = numbered es port m (num_of m)
 ctrl_step es port m = record { ops = es; sends = [] }
 
 -- a move may begin: two instances, and a filter that meets no open one
@@ -250,17 +250,17 @@ abbrev pub new_op : {R : Type 0} → ℕ → MoveAsked → Open R
 new_op n x = record { op = record { num = n; src = x.src; dst = x.dst; keep = x.keep }; filter = x.filter; phase = Freezing; store = [] }
 
 abbrev pub begin_sends : {R : Type 0} → ℕ → MoveAsked → List (ℕ × Msg R)
-begin_sends n x = (x.src, Mv x.filter (M_enable n Drops)) ∷ []
+begin_sends n x = (x.src, Of_move x.filter (MoveMsg.Enable n Drops)) ∷ []
 
 -- the switch: a route for each unit
 abbrev pub sw_target : {R : Type 0} → Sys R → (units.Unit → ℕ) → Msg R → units.Unit → ℕ
-sw_target S t (Mv g (M_install n from to)) v = if S.takes g v && (t v == from) then to else t v
+sw_target S t (Of_move g (MoveMsg.Install n from to)) v = if S.takes g v && (t v == from) then to else t v
 sw_target S t m v = t v
 
 abbrev pub sw_sends : {R : Type 0} → Msg R → List (ℕ × Msg R)
-sw_sends (Mv g (M_forward p to)) = (to, Pass_on p) ∷ []
-sw_sends (Mv g (M_install n from to)) = (from, Fence_on n) ∷ []
-sw_sends (Mv g (M_fence_to n to)) = (to, Fence_on n) ∷ []
+sw_sends (Of_move g (MoveMsg.Forward p to)) = (to, Pass_on p) ∷ []
+sw_sends (Of_move g (MoveMsg.Install n from to)) = (from, Fence_on n) ∷ []
+sw_sends (Of_move g (MoveMsg.Fence_to n to)) = (to, Fence_on n) ∷ []
 sw_sends m = []
 
 -- a world, its links as a function of pairs
@@ -314,5 +314,5 @@ abbrev pub seen : {R : Type 0} → Frame → Msg R → Option (Item R)
 seen v (Carry_on p) = where_true (v.mine p) (Carry p)
 seen v (Pass_on p) = where_true (v.mine p) (Pass p)
 seen v (Fence_on n) = where_true (n == v.move) Fence
-seen v (Mv g m) = Real.seen v m
+seen v (Of_move g m) = Real.seen v m
 seen v m = None

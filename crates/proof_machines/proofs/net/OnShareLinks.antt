@@ -1,8 +1,8 @@
 -- What the links of a share's stage have at their heads: who sends what to the controller, and what the switch is sent.
-use Rattle.proof_machines.proofs.net.Words.{◌≡◌, ℕ, List, [], ◌∷◌, ◌++◌, map, sym, ap, subst, ◌∙◌, refl, if◌then◌else◌, ◌==◌, Decides-eqb}
-use Rattle.proof_machines.proofs.net.Words.{Diverted, Install, Forward, Fenced, Chunk, Synced, UnitShare, SharePhase, Fencing, Getting, Out}
-use Rattle.proof_machines.proofs.net.Words.{only, chunk_of, if_mine, Turn, Coming, comes_from, served, Stage, Diverting, Fence_goes, Fenced_comes, Get_goes}
-use Rattle.proof_machines.proofs.net.Words.{Chunks_come, Spreads, Resting, Forwards, Carries, Chunk_comes, shape, split}
+use Rattle.proof_machines.proofs.net.Words.{◌≡◌, ℕ, List, [], ◌∷◌, ◌++◌, map, sym, ap, subst, ◌∙◌, refl, if◌then◌else◌, ◌==◌, Decides-eqb, Diverted, Install}
+use Rattle.proof_machines.proofs.net.Words.{Forward, Fenced, Chunk, Synced, UnitShare, SharePhase, Fencing, Getting, Out, only, chunk_of, if_mine, Turn, Coming}
+use Rattle.proof_machines.proofs.net.Words.{comes_from, served, Stage, Diverting, Fence_goes, Fenced_comes, Get_goes, Chunks_come, Spreads, Resting, Forwards}
+use Rattle.proof_machines.proofs.net.Words.{Carries, Chunk_comes, shape, split}
 use Rattle.proof_machines.proofs.share.Share.{Item, Item.Chunks, after}
 
 -- the sender of an item to the controller, in a phase

@@ -4,8 +4,8 @@ use Rattle.proof_machines.proofs.net.Words.{arith, if◌then◌else◌, ◌==◌
 use Rattle.proof_machines.proofs.net.Words.{filter_map-append, sent_for-append, Forward, Get, Sync, Diverted, Fenced, Chunk, Synced, Stray, UnitShare}
 use Rattle.proof_machines.proofs.net.Words.{SharePhase, Idle, Out, has, without_number, only, nowhere, waits, sync_to, serves, said_to, share_does, distinct}
 use Rattle.proof_machines.proofs.net.Words.{IsShare, self, has-without, apart_of, Sys, mine, unit_share, fit, share_seen, share_items, as_share, Any, New}
-use Rattle.proof_machines.proofs.net.Words.{S_forward, S_get, S_sync, same, Sharing, OpenShare, Told, Is_fenced, Has_chunks, Has_chunk, Is_synced, Has_packet}
-use Rattle.proof_machines.proofs.net.Words.{ShareTurn, s_row, s_serves, share_row, share_words, SeeingShare, split, false_from_ne_true, Unit}
+use Rattle.proof_machines.proofs.net.Words.{ShareMsg, same, Sharing, OpenShare, Told, Is_fenced, Has_chunks, Has_chunk, Is_synced, Has_packet, ShareTurn, s_row}
+use Rattle.proof_machines.proofs.net.Words.{s_serves, share_row, share_words, SeeingShare, split, false_from_ne_true, Unit}
 use Rattle.copy_share.specs.ShareTable as said
 use Rattle.copy_share.specs.ShareTable.{Said, on_fenced, on_chunks, on_shared, on_synced, service_if_idle}
 use Rattle.proof_machines.proofs.unit.Real
@@ -56,9 +56,10 @@ module _ {R : Type 0} (S : Sys R) (A : Sharing S) (z : SeeingShare) (is : IsShar
   syncs_seen : (j : ℕ) (cs : Real.Chunks R) (k : ℕ)
       → share_items S A z k (sent_for k (syncs z.num z.home j cs z.members)) ≡ sync_to (without_number z.members j) (record_at z.unit cs) k
   syncs_seen j cs k =
-      ap (share_items S A z k) (sent_each (λ m. New (S_sync z.num (m == z.home) cs)) k (without_number z.members j) (distinct-without z.members j is.apart))
+      ap (share_items S A z k) (sent_each (λ m. New (ShareMsg.Sync z.num (m == z.home) cs)) k (without_number z.members j)
+          (distinct-without z.members j is.apart))
       ∙ split (has (without_number z.members j) k)
-      (λ b. share_items S A z k (if b then New (S_sync z.num (k == z.home) cs) ∷ [] else []) ≡ (if b then Sync (record_at z.unit cs) ∷ [] else []))
+      (λ b. share_items S A z k (if b then New (ShareMsg.Sync z.num (k == z.home) cs) ∷ [] else []) ≡ (if b then Sync (record_at z.unit cs) ∷ [] else []))
       (λ _. ap (λ b. add (where_true b (fit S A z (same (k == z.home) (k == z.home)) (Sync (record_at z.unit cs)))) []) (self z.num)
       ∙ ap (λ it. it ∷ []) (agrees (k == z.home) (Sync (record_at z.unit cs)))) (λ _. refl)
 
@@ -66,13 +67,13 @@ module _ {R : Type 0} (S : Sys R) (A : Sharing S) (z : SeeingShare) (is : IsShar
   none_to_s j cs = let out : has (without_number z.members j) 0 ≡ false = has-without z.members j 0 ∙ rw none_at_0 refl in syncs_seen j cs 0 ∙ rw out refl
 
   -- the packet that is served
-  forward_seen : (to p : ℕ) → share_items S A z 0 ((New (S_forward z.num (to == z.home) p to)) ∷ []) ≡ Forward p to ∷ []
+  forward_seen : (to p : ℕ) → share_items S A z 0 ((New (ShareMsg.Forward z.num (to == z.home) p to)) ∷ []) ≡ Forward p to ∷ []
   forward_seen to p =
       ap (λ b. add (if b then Some (fit S A z (same (to == z.home) (to == z.home)) (Forward p to)) else where_true (mine S A z p) Stray) []) (self z.num)
       ∙ ap (λ it. it ∷ []) (agrees (to == z.home) (Forward p to))
 
-  get_seen : (k : ℕ) → share_items S A z k (sent_for k ((z.home, New (S_get z.num z.filter)) ∷ [])) ≡ only z.home (Get ∷ []) k
-  get_seen k = lone_view S A z z.home k (New (S_get z.num z.filter)) ∙ ap (λ b. if z.home == k then add (where_true b Get) [] else []) (self z.num)
+  get_seen : (k : ℕ) → share_items S A z k (sent_for k ((z.home, New (ShareMsg.Get z.num z.filter)) ∷ [])) ≡ only z.home (Get ∷ []) k
+  get_seen k = lone_view S A z z.home k (New (ShareMsg.Get z.num z.filter)) ∙ ap (λ b. if z.home == k then add (where_true b Get) [] else []) (self z.num)
       ∙ ap (λ b. if b then Get ∷ [] else []) (nat_eq_equiv.symm z.home k)
 
   phase_same : (ph : SharePhase) → map_phase (λ m. m) ph ≡ ph

@@ -6,12 +6,11 @@ use Rattle.std.proofs.lemmas.Bool.Decides.{nat_tests}
 use Rattle.proof_machines.proofs.unit.Machine.{Ran, after}
 use Rattle.proof_machines.proofs.unit.Lists.{firsts}
 use Rattle.proof_machines.proofs.unit.Real
-use Rattle.proof_machines.proofs.unit.Real.{where_true, record_at, M_enable, M_stream, M_delete, M_put, M_restore, M_event, M_piece, M_put_no, M_forward}
-use Rattle.proof_machines.proofs.unit.Real.{M_install}
+use Rattle.proof_machines.proofs.unit.Real.{where_true, record_at, MoveMsg}
 use Rattle.proof_machines.proofs.unit.Seen.{NodesDiffer}
 use Rattle.proof_machines.proofs.unit.Labels.{Each, Clean, Foreign}
 use Rattle.flow_filter.specs.declared.filter.Filter.{Filter}
-use Rattle.proof_machines.proofs.net.Net.{Msg, Carry_on, Pass_on, Fence_on, Mv, Sys, Ruling, is_free, Open, num_of, World}
+use Rattle.proof_machines.proofs.net.Net.{Msg, Carry_on, Pass_on, Fence_on, Of_move, Sys, Ruling, is_free, Open, num_of, World}
 use Rattle.nf_function.specs.declared.unit.Unit as units
 use Rattle.record_table.specs.Table.{same_unit}
 
@@ -22,7 +21,7 @@ IsBelow b (Some k) = k < b
 
 abbrev pub Below : {R : Type 0} → ℕ → Msg R → Type 0
 Below b (Fence_on k) = k < b
-Below b (Mv g m) = IsBelow b (num_of m)
+Below b (Of_move g m) = IsBelow b (num_of m)
 Below b m = Prim.Unit {0}
 
 module _ {R : Type 0} (S : Sys R) where
@@ -35,17 +34,17 @@ module _ {R : Type 0} (S : Sys R) (u : units.Unit) where
   abbrev pub mine : ℕ → Bool
   mine p = same_unit (S.packet_unit p) u
 
-  abbrev pub HasNothing : Filter → Real.Msg R → Type 0
-  HasNothing g (M_enable n k) = (S.takes g u ≡ false) × (is_free k ≡ false)
-  HasNothing g (M_stream n) = S.takes g u ≡ false
-  HasNothing g (M_install n from to) = S.takes g u ≡ false
-  HasNothing g (M_event n p) = mine p ≡ false
-  HasNothing g (M_forward p to) = mine p ≡ false
+  abbrev pub HasNothing : Filter → MoveMsg R → Type 0
+  HasNothing g (MoveMsg.Enable n k) = (S.takes g u ≡ false) × (is_free k ≡ false)
+  HasNothing g (MoveMsg.Stream n) = S.takes g u ≡ false
+  HasNothing g (MoveMsg.Install n from to) = S.takes g u ≡ false
+  HasNothing g (MoveMsg.Event n p) = mine p ≡ false
+  HasNothing g (MoveMsg.Forward p to) = mine p ≡ false
   HasNothing g m = Foreign u m
 
   -- a message has nothing of the unit but a plain packet
   abbrev pub NothingOf : ℕ → Msg R → Type 0
-  NothingOf i (Mv g m) = ((i == 0) ≡ false) × HasNothing g m
+  NothingOf i (Of_move g m) = ((i == 0) ≡ false) × HasNothing g m
   NothingOf i (Pass_on p) = mine p ≡ false
   NothingOf i m = Prim.Unit {0}
 

@@ -5,11 +5,10 @@ use Rattle.proof_machines.proofs.NumberedLists.{none_below}
 use Rattle.proof_machines.proofs.EachLaws.{each_both}
 use Rattle.proof_machines.proofs.net.Words.{◌≡◌, ℕ, ◌≤◌, ◌<◌, Bool, true, false, Option, Some, None, List, [], ◌∷◌, map, refl, sym, ap, ◌∙◌, subst, unwrap_or}
 use Rattle.proof_machines.proofs.net.Words.{arith, if◌then◌else◌, ◌&&◌, ◌==◌, nat_tests, Where, At_a, At_b, At_c, Ran, after, Free, idle, Item, Over, firsts}
-use Rattle.proof_machines.proofs.net.Words.{M_enable, M_stream, M_delete, M_put, M_restore, M_event, M_piece, M_put_no, M_forward, M_install, M_fence_to}
-use Rattle.proof_machines.proofs.net.Words.{where_true, add, only_mine, off_if, none_if, NodesDiffer, Each, each_both, Nodes, expect, rest_at, filter_map}
-use Rattle.proof_machines.proofs.net.Words.{Filter, Msg, In_packet, Asked, Carry_on, Pass_on, Fence_on, Mv, Sys, Ruling, find_rule, rule_of, is_free, held_of}
-use Rattle.proof_machines.proofs.net.Words.{Open, find_op, num_of, World, seen, Seeing, frame, MoveLabel, Label, RuleLabel, OpLabel, SeesNode, shows, node_at}
-use Rattle.proof_machines.proofs.net.Words.{place, IsController, Holds, same_unit, IsBelow, Below, below_off, Global, HasNothing, NothingOf}
+use Rattle.proof_machines.proofs.net.Words.{MoveMsg, where_true, add, only_mine, off_if, none_if, NodesDiffer, Each, each_both, Nodes, expect, rest_at}
+use Rattle.proof_machines.proofs.net.Words.{filter_map, Filter, Msg, In_packet, Asked, Carry_on, Pass_on, Fence_on, Of_move, Sys, Ruling, find_rule, rule_of}
+use Rattle.proof_machines.proofs.net.Words.{is_free, held_of, Open, find_op, num_of, World, seen, Seeing, frame, MoveLabel, Label, RuleLabel, OpLabel, SeesNode}
+use Rattle.proof_machines.proofs.net.Words.{shows, node_at, place, IsController, Holds, same_unit, IsBelow, Below, below_off, Global, HasNothing, NothingOf}
 use Rattle.proof_machines.proofs.net.Words.{RestRule, RestOp, carries_of, Rest, split, Unit}
 use Rattle.proof_machines.proofs.unit.Machine.{Carry, Stray, Phase, Idle}
 use Rattle.proof_machines.proofs.unit.Real
@@ -29,27 +28,27 @@ module _ {R : Type 0} (S : Sys R) (z : Seeing) where
     off : (k : ℕ) → k < b → (k == n) ≡ false
     off k e = below_off k b n e new
 
-    pub mv_label : (g : Filter) (m : Real.Msg R) → IsBelow b (num_of m) → HasNothing S u g m → MoveLabel S z g m
-    mv_label g (M_enable k r) e h = (h.0 ∙ sym (off k e), h.1)
-    mv_label g (M_stream k) e h = h ∙ sym (off k e)
-    mv_label g (M_install k from to) e h = h ∙ sym (off k e)
-    mv_label g (M_event k p) e h = λ is. let both : false ≡ true = sym h ∙ is in cc
-    mv_label g (M_delete k us) e h = λ _. h
-    mv_label g (M_put k p first) e h = λ _. h
-    mv_label g (M_restore k cs) e h = λ _. h
-    mv_label g (M_piece k p) e h = λ _. h
-    mv_label g (M_put_no k why cs) e h = λ _. h
+    pub mv_label : (g : Filter) (m : MoveMsg R) → IsBelow b (num_of m) → HasNothing S u g m → MoveLabel S z g m
+    mv_label g (MoveMsg.Enable k r) e h = (h.0 ∙ sym (off k e), h.1)
+    mv_label g (MoveMsg.Stream k) e h = h ∙ sym (off k e)
+    mv_label g (MoveMsg.Install k from to) e h = h ∙ sym (off k e)
+    mv_label g (MoveMsg.Event k p) e h = λ is. let both : false ≡ true = sym h ∙ is in cc
+    mv_label g (MoveMsg.Delete k us) e h = λ _. h
+    mv_label g (MoveMsg.Put k p first) e h = λ _. h
+    mv_label g (MoveMsg.Restore k cs) e h = λ _. h
+    mv_label g (MoveMsg.Piece k p) e h = λ _. h
+    mv_label g (MoveMsg.Put_no k why cs) e h = λ _. h
     mv_label g m e h = tt
 
     to_label : (i : ℕ) (m : Msg R) → Below b m → NothingOf S u i m → Label S z i m
-    to_label i (Mv g m) e h = (h.0, mv_label g m e h.1)
+    to_label i (Of_move g m) e h = (h.0, mv_label g m e h.1)
     to_label i (Pass_on p) e h = tt
     to_label i (Carry_on p) e h = tt
     to_label i m e h = tt
 
-    pub mv_unseen : (g : Filter) (m : Real.Msg R) → IsBelow b (num_of m) → HasNothing S u g m → Real.seen (frame S z) m ≡ None
-    mv_unseen g (M_event k p) e h = rw h refl
-    mv_unseen g (M_forward p to) e h = rw h refl
+    pub mv_unseen : (g : Filter) (m : MoveMsg R) → IsBelow b (num_of m) → HasNothing S u g m → Real.seen (frame S z) m ≡ None
+    mv_unseen g (MoveMsg.Event k p) e h = rw h refl
+    mv_unseen g (MoveMsg.Forward p to) e h = rw h refl
     mv_unseen g m e h = none_if _ _ (off (unwrap_or (num_of m) 0) e)
 
     view_rest : (i : ℕ) (ms : List (Msg R)) → Each (Below b) ms → Each (NothingOf S u i) ms → its ms ≡ map Carry (carries_of S u ms)
@@ -59,7 +58,7 @@ module _ {R : Type 0} (S : Sys R) (z : Seeing) where
         [ true ↦ ap (λ v. Carry p ∷ v) (view_rest i ms e.1 h.1) | false ↦ view_rest i ms e.1 h.1 ]
     view_rest i (Pass_on p ∷ ms) e h = let o = h.0 in rw o (view_rest i ms e.1 h.1)
     view_rest i (Fence_on k ∷ ms) e h = let o = off k e.0 in rw o (view_rest i ms e.1 h.1)
-    view_rest i (Mv g m ∷ ms) e h = let o = mv_unseen g m e.0 h.0.1 in rw o (view_rest i ms e.1 h.1)
+    view_rest i (Of_move g m ∷ ms) e h = let o = mv_unseen g m e.0 h.0.1 in rw o (view_rest i ms e.1 h.1)
     view_rest i (In_packet p ∷ ms) e h = view_rest i ms e.1 h.1
     view_rest i (Asked a ∷ ms) e h = view_rest i ms e.1 h.1
 
@@ -158,26 +157,26 @@ module _ {R : Type 0} (S : Sys R) (z : Seeing) where
   no_if true it e = e
   no_if false it e = refl
 
-  mv_no_carry : (m : Real.Msg R) → no_carry (Real.seen (frame S z) m) ≡ true
-  mv_no_carry (M_forward p to) = no_if (same_unit (S.packet_unit p) u) _
+  mv_no_carry : (m : MoveMsg R) → no_carry (Real.seen (frame S z) m) ≡ true
+  mv_no_carry (MoveMsg.Forward p to) = no_if (same_unit (S.packet_unit p) u) _
       (sent_either (λ it. no_carry (Some it) ≡ true) (frame S z) to (λ v. Rattle.proof_machines.proofs.unit.Machine.Forward v p) (λ v. refl) refl)
-  mv_no_carry (M_fence_to k to) = no_if (k == n) _
+  mv_no_carry (MoveMsg.Fence_to k to) = no_if (k == n) _
       (sent_either (λ it. no_carry (Some it) ≡ true) (frame S z) to (λ v. Rattle.proof_machines.proofs.unit.Machine.Fence_to v) (λ v. refl) refl)
-  mv_no_carry (M_install k from to) = no_if (k == n) _
+  mv_no_carry (MoveMsg.Install k from to) = no_if (k == n) _
       (by_if (λ it. no_carry (Some it) ≡ true) ((from == z.op.src) && (to == z.op.dst)) refl refl)
   mv_no_carry m = no_if _ _ refl
 
-  pub mv_nothing : (g : Filter) (m : Real.Msg R) → Real.seen (frame S z) m ≡ None → MoveLabel S z g m → HasNothing S u g m
-  mv_nothing g (M_enable k r) e l = (l.0 ∙ off_if (k == n) _ e, l.1)
-  mv_nothing g (M_stream k) e l = l ∙ off_if (k == n) _ e
-  mv_nothing g (M_install k from to) e l = l ∙ off_if (k == n) _ e
-  mv_nothing g (M_event k p) e l = off_if (same_unit (S.packet_unit p) u) _ e
-  mv_nothing g (M_forward p to) e l = off_if (same_unit (S.packet_unit p) u) _ e
-  mv_nothing g (M_delete k us) e l = l (off_if (k == n) _ e)
-  mv_nothing g (M_put k p first) e l = l (off_if (k == n) _ e)
-  mv_nothing g (M_restore k cs) e l = l (off_if (k == n) _ e)
-  mv_nothing g (M_piece k p) e l = l (off_if (k == n) _ e)
-  mv_nothing g (M_put_no k why cs) e l = l (off_if (k == n) _ e)
+  pub mv_nothing : (g : Filter) (m : MoveMsg R) → Real.seen (frame S z) m ≡ None → MoveLabel S z g m → HasNothing S u g m
+  mv_nothing g (MoveMsg.Enable k r) e l = (l.0 ∙ off_if (k == n) _ e, l.1)
+  mv_nothing g (MoveMsg.Stream k) e l = l ∙ off_if (k == n) _ e
+  mv_nothing g (MoveMsg.Install k from to) e l = l ∙ off_if (k == n) _ e
+  mv_nothing g (MoveMsg.Event k p) e l = off_if (same_unit (S.packet_unit p) u) _ e
+  mv_nothing g (MoveMsg.Forward p to) e l = off_if (same_unit (S.packet_unit p) u) _ e
+  mv_nothing g (MoveMsg.Delete k us) e l = l (off_if (k == n) _ e)
+  mv_nothing g (MoveMsg.Put k p first) e l = l (off_if (k == n) _ e)
+  mv_nothing g (MoveMsg.Restore k cs) e l = l (off_if (k == n) _ e)
+  mv_nothing g (MoveMsg.Piece k p) e l = l (off_if (k == n) _ e)
+  mv_nothing g (MoveMsg.Put_no k why cs) e l = l (off_if (k == n) _ e)
   mv_nothing g m e l = tt
 
   link_rest : (i : ℕ) (ms : List (Msg R)) (l : List ℕ) → its ms ≡ map Carry l → Each (Label S z i) ms → (carries_of S u ms ≡ l) × Each (NothingOf S u i) ms
@@ -201,7 +200,7 @@ module _ {R : Type 0} (S : Sys R) (z : Seeing) where
       let r = link_rest i ms l a.1 h.1 in (r.0, (off_if (same_unit (S.packet_unit p) u) _ a.0, r.1))
   link_rest i (Fence_on k ∷ ms) l e h =
       let a = carry_head (seen (frame S z) (Fence_on k)) (its ms) l (no_if (k == n) _ refl) e in let r = link_rest i ms l a.1 h.1 in (r.0, (tt, r.1))
-  link_rest i (Mv g m ∷ ms) l e h = let a = carry_head (seen (frame S z) (Mv g m)) (its ms) l (mv_no_carry m) e in
+  link_rest i (Of_move g m ∷ ms) l e h = let a = carry_head (seen (frame S z) (Of_move g m)) (its ms) l (mv_no_carry m) e in
       let r = link_rest i ms l a.1 h.1 in (r.0, ((h.0.0, mv_nothing g m a.0 h.0.1), r.1))
   link_rest i (In_packet p ∷ ms) l e h = let r = link_rest i ms l e h.1 in (r.0, (tt, r.1))
   link_rest i (Asked a ∷ ms) l e h = let r = link_rest i ms l e h.1 in (r.0, (tt, r.1))

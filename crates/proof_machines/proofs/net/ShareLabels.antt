@@ -2,20 +2,19 @@
 -- follows from what holds of all shares (`GlobalAll`).
 use Rattle.proof_machines.proofs.net.Words.{◌≡◌, ℕ, true, false, Some, None, List, [], ◌∷◌, refl, sym, ap, ◌∙◌, subst, arith, if◌then◌else◌, ◌==◌, nat_tests}
 use Rattle.proof_machines.proofs.net.Words.{Decides-eqb, record_at, Each, each_any, SharePhase, has, Sys, found_each, Disjoint, OfShare, GlobalAll, mine}
-use Rattle.proof_machines.proofs.net.Words.{as_share, ShareMsg, Shared_on, Diverted_on, S_asked, S_install, S_forward, S_get, S_sync, S_chunks, S_shared}
-use Rattle.proof_machines.proofs.net.Words.{S_synced, same, Sharing, OpenShare, find_share, share_taking, WholeWorld, SeeingShare, same_unit-true, either_way}
-use Rattle.proof_machines.proofs.net.Words.{split, false_from_ne_true, Unit}
+use Rattle.proof_machines.proofs.net.Words.{as_share, ShareMsg, Shared_on, Diverted_on, same, Sharing, OpenShare, find_share, share_taking, WholeWorld}
+use Rattle.proof_machines.proofs.net.Words.{SeeingShare, same_unit-true, either_way, split, false_from_ne_true, Unit}
 use Rattle.proof_machines.proofs.net.ShareRows.{taking_each, taking_found}
 
 module _ {R : Type 0} (S : Sys R) (A : Sharing S) (z : SeeingShare) where
   -- on a link to node r
   abbrev pub ShareLabel : ℕ → ShareMsg R → Type 0
   ShareLabel r (Shared_on n home p) = ((n == z.num) ≡ true → same home (r == z.home) ≡ true) × ((n == z.num) ≡ false → mine S A z p ≡ false)
-  ShareLabel r (S_install n g from) = ((n == z.num) ≡ true → (g ≡ z.filter) × (from ≡ z.home)) × ((n == z.num) ≡ false → Disjoint S z.filter g)
-  ShareLabel r (S_forward n home p to) =
+  ShareLabel r (ShareMsg.Install n g from) = ((n == z.num) ≡ true → (g ≡ z.filter) × (from ≡ z.home)) × ((n == z.num) ≡ false → Disjoint S z.filter g)
+  ShareLabel r (ShareMsg.Forward n home p to) =
       ((n == z.num) ≡ true → (same home (to == z.home) ≡ true) × (has z.members to ≡ true)) × ((n == z.num) ≡ false → mine S A z p ≡ false)
-  ShareLabel r (S_get n g) = (n == z.num) ≡ true → (r ≡ z.home) × (g ≡ z.filter)
-  ShareLabel r (S_sync n home cs) = ((n == z.num) ≡ true → same home (r == z.home) ≡ true) × ((n == z.num) ≡ false → record_at z.unit cs ≡ None)
+  ShareLabel r (ShareMsg.Get n g) = (n == z.num) ≡ true → (r ≡ z.home) × (g ≡ z.filter)
+  ShareLabel r (ShareMsg.Sync n home cs) = ((n == z.num) ≡ true → same home (r == z.home) ≡ true) × ((n == z.num) ≡ false → record_at z.unit cs ≡ None)
   ShareLabel r m = Prim.Unit {0}
 
   takes_some : (es : List OpenShare) (n : ℕ) (e : OpenShare) (v : Unit) → find_share es n ≡ Some e → S.takes e.filter v ≡ true
@@ -53,25 +52,25 @@ module _ {R : Type 0} (S : Sys R) (A : Sharing S) (z : SeeingShare) where
       (λ off. not_mine n p of.share of.found off of.says.0),
     )
     label_of r (Diverted_on p) of = tt
-    label_of r (S_asked x) of = tt
-    label_of r (S_install n f from) of = (
+    label_of r (ShareMsg.Asked x) of = tt
+    label_of r (ShareMsg.Install n f from) of = (
       (λ on. let e = own_is n of.share of.found on in (of.says.0 ∙ ap (λ y. y.filter) e, of.says.1 ∙ ap (λ y. y.home) e)),
       (λ off v takes. ap (λ k. S.takes k v) of.says.0 ∙ other_is n of.share of.found off v takes),
     )
-    label_of r (S_forward n home p to) of = (
+    label_of r (ShareMsg.Forward n home p to) of = (
       (λ on. let e = own_is n of.share of.found on in
           (subst (λ y. same home (to == y.home) ≡ true) e of.says.2, subst (λ y. has y.members to ≡ true) e of.says.1)),
       (λ off. not_mine n p of.share of.found off of.says.0),
     )
-    label_of r (S_get n f) of = λ on.
+    label_of r (ShareMsg.Get n f) of = λ on.
         let num : n ≡ z.num = (Decides-eqb n z.num).0 on in let k = of (as_share S A z ph q) (ap (find_share w.shares) num ∙ there) in (k.1, k.0)
-    label_of r (S_sync n home cs) of = (
+    label_of r (ShareMsg.Sync n home cs) of = (
       (λ on. let e = own_is n of.share of.found on in subst (λ y. same home (r == y.home) ≡ true) e of.says.1),
       (λ off. of.says.0 z.unit (other_is n of.share of.found off z.unit covered)),
     )
-    label_of r (S_chunks n cs) of = tt
-    label_of r (S_shared n c) of = tt
-    label_of r (S_synced n) of = tt
+    label_of r (ShareMsg.Chunks n cs) of = tt
+    label_of r (ShareMsg.Shared n c) of = tt
+    label_of r (ShareMsg.Synced n) of = tt
 
     -- the share that takes what the unit's share takes, and one that takes what it doesn't
     pub taking_own : (v : Unit) → S.takes z.filter v ≡ true → share_taking S w.shares v ≡ Some (as_share S A z ph q)

@@ -1,12 +1,11 @@
 -- What an open share is told by a message, and that its row keeps and sends nothing but what it was told.
-use Rattle.proof_machines.proofs.net.Words.{◌≡◌, ℕ, true, false, Option, Some, None, List, [], ◌∷◌, map, refl, subst, if◌then◌else◌, ◌==◌, option_map}
-use Rattle.proof_machines.proofs.net.Words.{Chunks, M_fenced, Each, each-append, SharePhase, Idle, without_number, self, Mv, Sys, EachSent, AreNumbersApart}
-use Rattle.proof_machines.proofs.net.Words.{found_own, Any, Old, New, Diverted_on, S_forward, S_get, S_sync, S_chunks, S_shared, S_synced, Sharing, OpenShare}
-use Rattle.proof_machines.proofs.net.Words.{find_share, share_taking, Told, Is_fenced, Has_chunks, Has_chunk, Is_synced, Has_packet, ShareTurn, share_words}
-use Rattle.proof_machines.proofs.net.Words.{s_row, share_row, told_by, SharesStep, by_share, split, by_if, Unit}
+use Rattle.proof_machines.proofs.net.Words.{◌≡◌, ℕ, true, false, Option, Some, None, List, [], ◌∷◌, map, refl, subst, if◌then◌else◌, ◌==◌, option_map, Chunks}
+use Rattle.proof_machines.proofs.net.Words.{MoveMsg, Each, each-append, SharePhase, Idle, without_number, self, Of_move, Sys, EachSent, AreNumbersApart}
+use Rattle.proof_machines.proofs.net.Words.{found_own, Any, Old, New, Diverted_on, ShareMsg, Sharing, OpenShare, find_share, share_taking, Told, Is_fenced}
+use Rattle.proof_machines.proofs.net.Words.{Has_chunks, Has_chunk, Is_synced, Has_packet, ShareTurn, share_words, s_row, share_row, told_by, SharesStep}
+use Rattle.proof_machines.proofs.net.Words.{by_share, split, by_if, Unit}
 use Rattle.copy_share.specs.ShareTable.{Words, service_if_idle}
 use Rattle.proof_machines.proofs.share.TableViews.{Follow, fenced_follows, chunks_follows, shared_follows, synced_follows}
-use Rattle.proof_machines.proofs.net.NewMessages.{each_sent_append}
 
 module _ {R : Type 0} (S : Sys R) (A : Sharing S) where
   -- the share that takes a unit is found by its number
@@ -28,9 +27,9 @@ module _ {R : Type 0} (S : Sys R) (A : Sharing S) where
   -- what a message tells a share
   abbrev pub Tells : List OpenShare → Any R → OpenShare → Told R → Type 0
   Tells es (Old m) e t = t ≡ Is_fenced
-  Tells es (New (S_chunks n cs)) e t = (find_share es n ≡ Some e) × (t ≡ Has_chunks cs)
-  Tells es (New (S_shared n c)) e t = (find_share es n ≡ Some e) × (t ≡ Has_chunk c)
-  Tells es (New (S_synced n)) e t = t ≡ Is_synced
+  Tells es (New (ShareMsg.Chunks n cs)) e t = (find_share es n ≡ Some e) × (t ≡ Has_chunks cs)
+  Tells es (New (ShareMsg.Shared n c)) e t = (find_share es n ≡ Some e) × (t ≡ Has_chunk c)
+  Tells es (New (ShareMsg.Synced n)) e t = t ≡ Is_synced
   Tells es (New (Diverted_on p)) e t = (share_taking S es (S.packet_unit p) ≡ Some e) × (t ≡ Has_packet p)
   Tells es (New m) e t = ⊥
 
@@ -46,13 +45,14 @@ module _ {R : Type 0} (S : Sys R) (A : Sharing S) where
   pub told_cases : (G : SharesStep S A → Type 0) (es : List OpenShare) (p : ℕ) (m : Any R) → AreNumbersApart es → G (no_step es)
       → ((e : OpenShare) (t : Told R) → find_share es e.num ≡ Some e → Tells es m e t → G (by_share S A es p (Some (e, t))))
       → G (by_share S A es p (told_by S A es m))
-  told_cases G es p (Old (Mv g (M_fenced n))) nums none some =
+  told_cases G es p (Old (Of_move g (MoveMsg.Fenced n))) nums none some =
       by_option G es p Is_fenced (find_share es n) none (λ e is. some e Is_fenced (found_own es n e is) refl)
-  told_cases G es p (New (S_chunks n cs)) nums none some =
+  told_cases G es p (New (ShareMsg.Chunks n cs)) nums none some =
       by_option G es p (Has_chunks cs) (find_share es n) none (λ e is. some e (Has_chunks cs) (found_own es n e is) (is, refl))
-  told_cases G es p (New (S_shared n c)) nums none some =
+  told_cases G es p (New (ShareMsg.Shared n c)) nums none some =
       by_option G es p (Has_chunk c) (find_share es n) none (λ e is. some e (Has_chunk c) (found_own es n e is) (is, refl))
-  told_cases G es p (New (S_synced n)) nums none some = by_option G es p Is_synced (find_share es n) none (λ e is. some e Is_synced (found_own es n e is) refl)
+  told_cases G es p (New (ShareMsg.Synced n)) nums none some =
+      by_option G es p Is_synced (find_share es n) none (λ e is. some e Is_synced (found_own es n e is) refl)
   told_cases G es p (New (Diverted_on q)) nums none some = by_option G es p (Has_packet q) (share_taking S es (S.packet_unit q)) none
       (λ e is. some e (Has_packet q) (taking_found es (S.packet_unit q) e nums is) (is, refl))
   told_cases G es p m nums none some = none
@@ -67,15 +67,15 @@ module _ {R : Type 0} (S : Sys R) (A : Sharing S) where
     ToldOf (Has_packet p) = Q p
 
     abbrev pub SentBy : ℕ → Any R → Type 0
-    SentBy j (New (S_get n g)) = (n ≡ e.num) × (g ≡ e.filter) × (j ≡ e.home)
-    SentBy j (New (S_sync n home cs)) = (n ≡ e.num) × C cs × (home ≡ (j == e.home))
-    SentBy j (New (S_forward n home p to)) = (n ≡ e.num) × Q p × (to ≡ A.member e.members p) × (home ≡ (to == e.home))
+    SentBy j (New (ShareMsg.Get n g)) = (n ≡ e.num) × (g ≡ e.filter) × (j ≡ e.home)
+    SentBy j (New (ShareMsg.Sync n home cs)) = (n ≡ e.num) × C cs × (home ≡ (j == e.home))
+    SentBy j (New (ShareMsg.Forward n home p to)) = (n ≡ e.num) × Q p × (to ≡ A.member e.members p) × (home ≡ (to == e.home))
     SentBy j m = ⊥
 
     abbrev pub Keeps : ShareTurn R → Type 0
     Keeps d = Each Q d.queue × EachSent SentBy d.sends
 
-    syncs_by : (cs : Chunks R) → C cs → (ms : List ℕ) → EachSent SentBy (map (λ m. (m, New (S_sync e.num (m == e.home) cs))) ms)
+    syncs_by : (cs : Chunks R) → C cs → (ms : List ℕ) → EachSent SentBy (map (λ m. (m, New (ShareMsg.Sync e.num (m == e.home) cs))) ms)
     syncs_by cs c [] = tt
     syncs_by cs c (m ∷ ms) = ((refl, c, refl), syncs_by cs c ms)
 
@@ -104,4 +104,4 @@ module _ {R : Type 0} (S : Sys R) (A : Sharing S) where
         let r = s_row S A e sender told in
         let k = row_by h sender told t in
         let next = served_by r.phase r.queue k.0 in
-        (next.0, each_sent_append SentBy r.sends (service_if_idle (share_words S A e r.queue) r.phase r.queue).sends k.1 next.1)
+        (next.0, each-append _ r.sends (service_if_idle (share_words S A e r.queue) r.phase r.queue).sends k.1 next.1)

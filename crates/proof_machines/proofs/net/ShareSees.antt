@@ -1,14 +1,14 @@
 -- The controller takes any message: a unit under a share sees of its own share what the share's machine does, of another share nothing
 -- (`share_sees`), and of a move nothing.
 use Rattle.proof_machines.proofs.net.Words.{◌≡◌, ℕ, ◌≤◌, Bool, true, false, Option, Some, None, List, [], ◌∷◌, ◌⊎◌, inl, inr, refl, sym, ap, ◌∙◌, subst, arith}
-use Rattle.proof_machines.proofs.net.Words.{if◌then◌else◌, ◌==◌, option_map, nat_tests, Decides-eqb, record_at, M_fenced, M_install, M_fence_to, Op, where_true}
-use Rattle.proof_machines.proofs.net.Words.{add, sent_for, Each, Carry, Fence, Shared, Diverted, Install, Forward, Get, Sync, Fenced, Chunk, Synced, Stray}
-use Rattle.proof_machines.proofs.net.Words.{UnitShare, SharePhase, has, waits, share_does, IsShare, Filter, In_packet, Carry_on, Pass_on, Fence_on, Mv, Sys}
-use Rattle.proof_machines.proofs.net.Words.{Open, find_op, row, filter_for, wrap, found, numbered, num_of, EachSent, found_num, GlobalAll, mine, unit_share}
-use Rattle.proof_machines.proofs.net.Words.{fit, move_seen, old_seen, new_seen, share_seen, share_items, as_share, Any, Old, New, Shared_on, Diverted_on}
-use Rattle.proof_machines.proofs.net.Words.{S_install, S_forward, S_get, S_sync, S_chunks, S_shared, S_synced, same, Sharing, OpenShare, find_share, set_share}
-use Rattle.proof_machines.proofs.net.Words.{share_taking, Told, Is_fenced, Has_chunks, Has_chunk, Is_synced, Has_packet, share_row, told_by, SharesStep}
-use Rattle.proof_machines.proofs.net.Words.{by_share, WholeWorld, old_step, SeeingShare, same_unit-true, split, false_from_ne_true}
+use Rattle.proof_machines.proofs.net.Words.{if◌then◌else◌, ◌==◌, option_map, nat_tests, Decides-eqb, record_at, MoveMsg, Op, where_true, add, sent_for, Each}
+use Rattle.proof_machines.proofs.net.Words.{Carry, Fence, Shared, Diverted, Install, Forward, Get, Sync, Fenced, Chunk, Synced, Stray, UnitShare, SharePhase}
+use Rattle.proof_machines.proofs.net.Words.{has, waits, share_does, IsShare, Filter, In_packet, Carry_on, Pass_on, Fence_on, Of_move, Sys, Open, find_op, row}
+use Rattle.proof_machines.proofs.net.Words.{filter_for, wrap, found, numbered, num_of, EachSent, found_num, GlobalAll, mine, unit_share, fit, move_seen}
+use Rattle.proof_machines.proofs.net.Words.{old_seen, new_seen, share_seen, share_items, as_share, Any, Old, New, Shared_on, Diverted_on, ShareMsg, same}
+use Rattle.proof_machines.proofs.net.Words.{Sharing, OpenShare, find_share, set_share, share_taking, Told, Is_fenced, Has_chunks, Has_chunk, Is_synced}
+use Rattle.proof_machines.proofs.net.Words.{Has_packet, share_row, told_by, SharesStep, by_share, WholeWorld, old_step, SeeingShare, same_unit-true, split}
+use Rattle.proof_machines.proofs.net.Words.{false_from_ne_true}
 use Rattle.proof_machines.proofs.unit.Real
 use Rattle.proof_machines.proofs.share.Share.{Item, Item.Chunks, ControllerTurn}
 use Rattle.proof_machines.proofs.net.Ctrl.{each_found}
@@ -58,9 +58,10 @@ module _ {R : Type 0} (S : Sys R) (A : Sharing S) (z : SeeingShare) where
   -- Another share's sends
   another : (e : OpenShare) → (e.num == z.num) ≡ false → (j k : ℕ) (m : Any R) → SentBy S A e (λ p. mine S A z p ≡ false) (λ _. Unit {0}) j m
       → share_seen S A z k m ≡ None
-  another e off j k (New (S_get n g)) h = let none : (n == z.num) ≡ false = ap (λ i. i == z.num) h.0 ∙ off in rw none refl
-  another e off j k (New (S_sync n home cs)) h = let none : (n == z.num) ≡ false = ap (λ i. i == z.num) h.0 ∙ off in rw none refl
-  another e off j k (New (S_forward n home p to)) h = let none : (n == z.num) ≡ false = ap (λ i. i == z.num) h.0 ∙ off in let its = h.1 in rw (none, its) refl
+  another e off j k (New (ShareMsg.Get n g)) h = let none : (n == z.num) ≡ false = ap (λ i. i == z.num) h.0 ∙ off in rw none refl
+  another e off j k (New (ShareMsg.Sync n home cs)) h = let none : (n == z.num) ≡ false = ap (λ i. i == z.num) h.0 ∙ off in rw none refl
+  another e off j k (New (ShareMsg.Forward n home p to)) h = let none : (n == z.num) ≡ false = ap (λ i. i == z.num) h.0
+      ∙ off in let its = h.1 in rw (none, its) refl
   another e off j k m h = absurd h
 
   another_view : (e : OpenShare) → (e.num == z.num) ≡ false → (k : ℕ) (xs : List (ℕ × Any R))
@@ -160,44 +161,45 @@ module _ {R : Type 0} (S : Sys R) (A : Sharing S) (z : SeeingShare) where
     of_sender true it on h = h
     of_sender false it off h = let never : false ≡ true = off in cc
 
-    move_sees : (h : Filter) (m : Real.Msg R) → SenderIf ph p (move_seen S A z m)
-        → Sees_share (by_share S A es p (told_by S A es (Old (Mv h m)))) (share_item ph q (move_seen S A z m))
-    move_sees h (M_fenced n) from =
+    move_sees : (h : Filter) (m : MoveMsg R) → SenderIf ph p (move_seen S A z m)
+        → Sees_share (by_share S A es p (told_by S A es (Old (Of_move h m)))) (share_item ph q (move_seen S A z m))
+    move_sees h (MoveMsg.Fenced n) from =
         by_number n Is_fenced Fenced (λ on. fenced_sees S A z is insts ph q p (of_sender (n == z.num) Fenced on from)) (λ _. tt)
-    move_sees h (M_install n a b) from = quiet_if (n == z.num) Stray refl
-    move_sees h (M_fence_to n to) from = quiet_if (n == z.num) Stray refl
+    move_sees h (MoveMsg.Install n a b) from = quiet_if (n == z.num) Stray refl
+    move_sees h (MoveMsg.Fence_to n to) from = quiet_if (n == z.num) Stray refl
     move_sees h m from = as_before
 
     pub share_sees : (m : Any R) → SenderIf ph p (share_seen S A z 1 m)
         → Sees_share (by_share S A es p (told_by S A es m)) (share_item ph q (share_seen S A z 1 m))
-    share_sees (Old (Mv h m)) from = move_sees h m from
+    share_sees (Old (Of_move h m)) from = move_sees h m from
     share_sees (Old (Carry_on k)) from = quiet_if (mine S A z k) (Carry k) refl
     share_sees (Old (Pass_on k)) from = quiet_if (mine S A z k) Stray refl
     share_sees (Old (Fence_on n)) from = quiet_if (n == z.num) Fence refl
-    share_sees (New (S_chunks n cs)) from = by_number n (Has_chunks cs) (Chunks (record_at z.unit cs))
+    share_sees (New (ShareMsg.Chunks n cs)) from = by_number n (Has_chunks cs) (Chunks (record_at z.unit cs))
         (λ on. chunks_sees S A z is insts ph q p cs (of_sender (n == z.num) (Chunks (record_at z.unit cs)) on from)) (λ _. tt)
-    share_sees (New (S_shared n c)) from = by_number n (Has_chunk c) (Chunk (record_at z.unit (c ∷ [])))
+    share_sees (New (ShareMsg.Shared n c)) from = by_number n (Has_chunk c) (Chunk (record_at z.unit (c ∷ [])))
         (λ on. chunk_sees S A z is insts ph q p c (of_sender (n == z.num) (Chunk (record_at z.unit (c ∷ []))) on from)) (λ _. tt)
-    share_sees (New (S_synced n)) from = by_number n Is_synced Synced (λ on. synced_sees S A z is insts ph q p) (λ _. tt)
+    share_sees (New (ShareMsg.Synced n)) from = by_number n Is_synced Synced (λ on. synced_sees S A z is insts ph q p) (λ _. tt)
     share_sees (New (Diverted_on k)) from = diverted k
     share_sees (New (Shared_on n home k)) from =
         quiet_else (n == z.num) k (fit S A z (same home (1 == z.home)) (Shared k)) (quiet_fit (same home (1 == z.home)) (Shared k) refl)
-    share_sees (New (S_install n h from_n)) from = quiet_if (n == z.num) (fit S A z (from_n == z.home) Install) (quiet_fit (from_n == z.home) Install refl)
-    share_sees (New (S_forward n home k to)) from =
+    share_sees (New (ShareMsg.Install n h from_n)) from =
+        quiet_if (n == z.num) (fit S A z (from_n == z.home) Install) (quiet_fit (from_n == z.home) Install refl)
+    share_sees (New (ShareMsg.Forward n home k to)) from =
         quiet_else (n == z.num) k (fit S A z (same home (to == z.home)) (Forward k to)) (quiet_fit (same home (to == z.home)) (Forward k to) refl)
-    share_sees (New (S_get n h)) from = quiet_if (n == z.num) Get refl
-    share_sees (New (S_sync n home cs)) from = quiet_if (n == z.num) (fit S A z (same home (1 == z.home)) (Sync (record_at z.unit cs)))
+    share_sees (New (ShareMsg.Get n h)) from = quiet_if (n == z.num) Get refl
+    share_sees (New (ShareMsg.Sync n home cs)) from = quiet_if (n == z.num) (fit S A z (same home (1 == z.home)) (Sync (record_at z.unit cs)))
         (quiet_fit (same home (1 == z.home)) (Sync (record_at z.unit cs)) refl)
     share_sees m from = as_before
 
     -- Moves' rows: none has the share's number
-    row_unseen : (o : Op) (h : Filter) (m : Real.Msg R) → (o.num == z.num) ≡ false → OfRow o m → old_seen S A z (Mv h m) ≡ None
-    row_unseen o h (M_install n a b) off of = let none : (n == z.num) ≡ false = ap (λ k. k == z.num) of ∙ off in rw none refl
-    row_unseen o h (M_fence_to n to) off of = let none : (n == z.num) ≡ false = ap (λ k. k == z.num) of ∙ off in rw none refl
-    row_unseen o h (M_fenced n) off of = absurd of
+    row_unseen : (o : Op) (h : Filter) (m : MoveMsg R) → (o.num == z.num) ≡ false → OfRow o m → old_seen S A z (Of_move h m) ≡ None
+    row_unseen o h (MoveMsg.Install n a b) off of = let none : (n == z.num) ≡ false = ap (λ k. k == z.num) of ∙ off in rw none refl
+    row_unseen o h (MoveMsg.Fence_to n to) off of = let none : (n == z.num) ≡ false = ap (λ k. k == z.num) of ∙ off in rw none refl
+    row_unseen o h (MoveMsg.Fenced n) off of = absurd of
     row_unseen o h m off of = refl
 
-    wrap_unseen : (o : Op) (h : Filter) (xs : List (ℕ × Real.Msg R)) → (o.num == z.num) ≡ false → Each (SentOf o) xs → Unseen S A z (wrap h xs)
+    wrap_unseen : (o : Op) (h : Filter) (xs : List (ℕ × MoveMsg R)) → (o.num == z.num) ≡ false → Each (SentOf o) xs → Unseen S A z (wrap h xs)
     wrap_unseen o h [] off of = tt
     wrap_unseen o h (x ∷ xs) off of = (row_unseen o (filter_for h x.1) x.1 off of.0, wrap_unseen o h xs off of.1)
 
@@ -218,7 +220,7 @@ module _ {R : Type 0} (S : Sys R) (A : Sharing S) (z : SeeingShare) where
 
     pub moves_unseen : (m : Any R) → Unseen S A z (old_step S A w.ops p m).sends
     moves_unseen (New m) = tt
-    moves_unseen (Old (Mv h m)) = by_num (num_of m)
+    moves_unseen (Old (Of_move h m)) = by_num (num_of m)
       where
         by_op : (n : ℕ) (o : Option (Open R)) → find_op w.ops n ≡ o → Unseen S A z (found w.ops n p m o).sends
         by_op n None none = tt

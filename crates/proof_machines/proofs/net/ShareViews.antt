@@ -3,14 +3,14 @@
 use Rattle.std.proofs.Common.{◌≡◌, ℕ, Bool, true, false, Option, Some, None, List, [], ◌∷◌}
 use Rattle.std.specs.Prelude.{if◌then◌else◌, ◌&&◌, ◌==◌}
 use Rattle.proof_machines.proofs.unit.Real
-use Rattle.proof_machines.proofs.unit.Real.{record_at, M_fenced, M_install, M_fence_to, where_true}
+use Rattle.proof_machines.proofs.unit.Real.{record_at, MoveMsg, where_true}
 use Rattle.std.specs.List.{filter_map}
 use Rattle.proof_machines.proofs.share.Share.{Item, Item.Carry, Item.Fence, Item.Shared, Item.Diverted, Item.Install, Item.Forward, Item.Get, Item.Sync}
 use Rattle.proof_machines.proofs.share.Share.{Item.Fenced, Item.Chunks, Item.Chunk, Item.Synced, Item.Stray, UnitShare, View, has}
 use Rattle.copy_share.specs.declared.share_phase.SharePhase.{SharePhase}
-use Rattle.proof_machines.proofs.net.Net.{Msg, Msg.Carry_on, Msg.Pass_on, Msg.Fence_on, Msg.Mv, Sys}
-use Rattle.proof_machines.proofs.net.Shares.{Any, Any.Old, Any.New, ShareMsg, ShareMsg.Shared_on, ShareMsg.Diverted_on, ShareMsg.S_asked, ShareMsg.S_install}
-use Rattle.proof_machines.proofs.net.Shares.{ShareMsg.S_forward, ShareMsg.S_get, ShareMsg.S_sync, ShareMsg.S_chunks, ShareMsg.S_shared, ShareMsg.S_synced, same}
+use Rattle.proof_machines.proofs.net.Net.{Msg, Msg.Carry_on, Msg.Pass_on, Msg.Fence_on, Msg.Of_move, Sys}
+use Rattle.proof_machines.proofs.net.Shares.{Any, Any.Old, Any.New, ShareMsg, ShareMsg.Shared_on, ShareMsg.Diverted_on}
+use Rattle.proof_machines.proofs.net.Shares.{same}
 use Rattle.proof_machines.proofs.net.Shares.{Sharing, OpenShare, find_share, WholeWorld, ran_of, SeeingShare}
 use Rattle.nf_function.specs.declared.unit.Unit as units
 use Rattle.record_table.specs.Table.{same_unit}
@@ -34,31 +34,31 @@ module _ {R : Type 0} (S : Sys R) (A : Sharing S) (z : SeeingShare) where
   of_number n p item = if n == z.num then Some item else where_true (mine p) Stray
 
   -- a move's message with the share's number is Stray, but for the answer to a fence
-  abbrev pub move_seen : Real.Msg R → Option (Item R)
-  move_seen (M_fenced n) = where_true (n == z.num) Fenced
-  move_seen (M_install n from to) = where_true (n == z.num) Stray
-  move_seen (M_fence_to n to) = where_true (n == z.num) Stray
+  abbrev pub move_seen : MoveMsg R → Option (Item R)
+  move_seen (MoveMsg.Fenced n) = where_true (n == z.num) Fenced
+  move_seen (MoveMsg.Install n from to) = where_true (n == z.num) Stray
+  move_seen (MoveMsg.Fence_to n to) = where_true (n == z.num) Stray
   move_seen m = None
 
   abbrev pub old_seen : Msg R → Option (Item R)
   old_seen (Carry_on p) = where_true (mine p) (Carry p)
   old_seen (Pass_on p) = where_true (mine p) Stray
   old_seen (Fence_on n) = where_true (n == z.num) Fence
-  old_seen (Mv g m) = move_seen m
+  old_seen (Of_move g m) = move_seen m
   old_seen m = None
 
   -- at the receiver r
   abbrev pub new_seen : ℕ → ShareMsg R → Option (Item R)
   new_seen r (Shared_on n home p) = of_number n p (fit (same home (r == z.home)) (Shared p))
   new_seen r (Diverted_on p) = if S.takes z.filter (S.packet_unit p) then Some (Diverted p) else where_true (mine p) Stray
-  new_seen r (S_asked x) = None
-  new_seen r (S_install n g from) = where_true (n == z.num) (fit (from == z.home) Install)
-  new_seen r (S_forward n home p to) = of_number n p (fit (same home (to == z.home)) (Forward p to))
-  new_seen r (S_get n g) = where_true (n == z.num) Get
-  new_seen r (S_sync n home cs) = where_true (n == z.num) (fit (same home (r == z.home)) (Sync (record_at z.unit cs)))
-  new_seen r (S_chunks n cs) = where_true (n == z.num) (Chunks (record_at z.unit cs))
-  new_seen r (S_shared n c) = where_true (n == z.num) (Chunk (record_at z.unit (c ∷ [])))
-  new_seen r (S_synced n) = where_true (n == z.num) Synced
+  new_seen r (ShareMsg.Asked x) = None
+  new_seen r (ShareMsg.Install n g from) = where_true (n == z.num) (fit (from == z.home) Install)
+  new_seen r (ShareMsg.Forward n home p to) = of_number n p (fit (same home (to == z.home)) (Forward p to))
+  new_seen r (ShareMsg.Get n g) = where_true (n == z.num) Get
+  new_seen r (ShareMsg.Sync n home cs) = where_true (n == z.num) (fit (same home (r == z.home)) (Sync (record_at z.unit cs)))
+  new_seen r (ShareMsg.Chunks n cs) = where_true (n == z.num) (Chunks (record_at z.unit cs))
+  new_seen r (ShareMsg.Shared n c) = where_true (n == z.num) (Chunk (record_at z.unit (c ∷ [])))
+  new_seen r (ShareMsg.Synced n) = where_true (n == z.num) Synced
 
   abbrev pub share_seen : ℕ → Any R → Option (Item R)
   share_seen r (Old m) = old_seen m

@@ -3,7 +3,7 @@
 use Rattle.std.proofs.Common.{◌≡◌, ℕ, suc, ◌<◌, ◌≤◌, Bool, true, false, Option, Some, None, List, [], ◌∷◌, ◌++◌, length}
 use Rattle.std.specs.Prelude.{if◌then◌else◌, ◌&&◌, ◌==◌, option_map, not, map}
 use Rattle.std.specs.Option.{option_map_or}
-use Rattle.proof_machines.proofs.unit.Real.{Chunks, record_at, M_fenced, sent_for}
+use Rattle.proof_machines.proofs.unit.Real.{Chunks, record_at, MoveMsg, sent_for}
 use Rattle.proof_machines.proofs.share.Share as share
 use Rattle.proof_machines.proofs.share.Stages.{distinct}
 use Rattle.copy_share.specs.declared.share_phase.SharePhase.{SharePhase}
@@ -11,30 +11,11 @@ use Rattle.copy_share.specs.declared.share_phase.SharePhase.TheVariants.{Fencing
 use Rattle.copy_share.specs.ShareTable as said
 use Rattle.copy_share.specs.ShareTable.{Said, Words, on_fenced, on_chunks, on_shared, on_synced, service_if_idle}
 use Rattle.flow_filter.specs.declared.filter.Filter.{Filter}
-use Rattle.proof_machines.proofs.net.Net.{Msg, Carry_on, Fence_on, Mv, MoveAsked, Sys, NumberedInstance, inst_step, process, Open, ControllerMove, ctrl_step}
-use Rattle.proof_machines.proofs.net.Net.{sw_target, sw_sends, meets_any, new_op, begin_sends, World, links_after, at_node, put}
+use Rattle.proof_machines.proofs.net.Net.{Msg, Carry_on, Fence_on, Of_move, MoveAsked, Sys, NumberedInstance, inst_step, process, Open, ControllerMove}
+use Rattle.proof_machines.proofs.net.Net.{ctrl_step, sw_target, sw_sends, meets_any, new_op, begin_sends, World, links_after, at_node, put}
 use Rattle.nf_function.specs.declared.unit.Unit as units
 use Rattle.record_table.specs.Table.{same_unit}
-
--- a share that is asked for; the home is the first member
-pub record WantShare : Type 0 where
-  pub num : ℕ
-  pub home : ℕ
-  pub members : List ℕ
-  pub filter : Filter
-
--- `home` is the message's own flag. A share's fence and its answer are Net's Fence_on and M_fenced, since the real ones bear a number alone
-pub data ShareMsg (R : Type 0) : Type 0 where
-  Shared_on : (n : ℕ) (home : Bool) (p : ℕ) → ShareMsg R  -- switch to instance: Carry with the mark Shared
-  Diverted_on : (p : ℕ) → ShareMsg R  -- switch to controller
-  S_asked : WantShare → ShareMsg R
-  S_install : (n : ℕ) (g : Filter) (from : ℕ) → ShareMsg R  -- controller to switch: its target is the controller
-  S_forward : (n : ℕ) (home : Bool) (p to : ℕ) → ShareMsg R
-  S_get : (n : ℕ) (g : Filter) → ShareMsg R  -- controller to instance; also a copy's
-  S_sync : (n : ℕ) (home : Bool) (cs : Chunks R) → ShareMsg R
-  S_chunks : (n : ℕ) (cs : Chunks R) → ShareMsg R  -- instance to controller; also a copy's
-  S_shared : (n : ℕ) (c : units.Unit × R) → ShareMsg R
-  S_synced : (n : ℕ) → ShareMsg R
+pub use Rattle.proof_machines.proofs.net.ShareMessages.{ShareAsked, ShareMsg, Shared_on, Diverted_on}
 
 -- a message of a move or of a share
 pub data Any (R : Type 0) : Type 0 where
@@ -79,7 +60,7 @@ pub record OpenShare : Type 0 where
   pub phase : SharePhase
   pub queue : List ℕ
 
-abbrev pub new_share : WantShare → OpenShare
+abbrev pub new_share : ShareAsked → OpenShare
 new_share x = record { num = x.num; home = x.home; members = x.members; filter = x.filter; phase = Fencing; queue = [] }
 
 abbrev pub find_share : List OpenShare → ℕ → Option OpenShare
@@ -110,14 +91,14 @@ pub record ShareTurn (R : Type 0) : Type 0 where
 
 -- a Sync to each member but one, in order
 abbrev pub syncs : {R : Type 0} → ℕ → ℕ → ℕ → Chunks R → List ℕ → List (ℕ × Any R)
-syncs n home j cs members = map (λ m. (m, New (S_sync n (m == home) cs))) (share.without_number members j)
+syncs n home j cs members = map (λ m. (m, New (ShareMsg.Sync n (m == home) cs))) (share.without_number members j)
 
 -- what a row of a share says, as messages with their receivers
 abbrev pub share_says : {R : Type 0} → OpenShare → Said ℕ (Chunks R) → List (ℕ × Any R)
 share_says e said.Nothing = []
-share_says e said.Get = (e.home, New (S_get e.num e.filter)) ∷ []
+share_says e said.Get = (e.home, New (ShareMsg.Get e.num e.filter)) ∷ []
 share_says e (said.Sync one cs) = syncs e.num e.home one cs e.members
-share_says e (said.Forward to p) = (0, New (S_forward e.num (to == e.home) p to)) ∷ []
+share_says e (said.Forward to p) = (0, New (ShareMsg.Forward e.num (to == e.home) p to)) ∷ []
 
 module _ {R : Type 0} (S : Sys R) (A : Sharing S) where
   abbrev pub s_goes : SharePhase → List ℕ → List (ℕ × Any R) → ShareTurn R
@@ -152,10 +133,10 @@ module _ {R : Type 0} (S : Sys R) (A : Sharing S) where
 
   -- the share that a message at the controller is for. (The real controller takes a Diverted from the switch alone: label it by its link.)
   abbrev pub told_by : List OpenShare → Any R → Option (OpenShare × Told R)
-  told_by es (Old (Mv g (M_fenced n))) = option_map (λ e. (e, Is_fenced)) (find_share es n)
-  told_by es (New (S_chunks n cs)) = option_map (λ e. (e, Has_chunks cs)) (find_share es n)
-  told_by es (New (S_shared n c)) = option_map (λ e. (e, Has_chunk c)) (find_share es n)
-  told_by es (New (S_synced n)) = option_map (λ e. (e, Is_synced)) (find_share es n)
+  told_by es (Old (Of_move g (MoveMsg.Fenced n))) = option_map (λ e. (e, Is_fenced)) (find_share es n)
+  told_by es (New (ShareMsg.Chunks n cs)) = option_map (λ e. (e, Has_chunks cs)) (find_share es n)
+  told_by es (New (ShareMsg.Shared n c)) = option_map (λ e. (e, Has_chunk c)) (find_share es n)
+  told_by es (New (ShareMsg.Synced n)) = option_map (λ e. (e, Is_synced)) (find_share es n)
   told_by es (New (Diverted_on p)) = option_map (λ e. (e, Has_packet p)) (share_taking S es (S.packet_unit p))
   told_by es m = None
 
@@ -177,26 +158,29 @@ module _ {R : Type 0} (S : Sys R) (A : Sharing S) where
 
   -- the chunk of a packet's unit, where it has a record (after the step it has)
   abbrev pub shared_chunk : ℕ → ℕ → S.B.T → List (ℕ × Any R)
-  shared_chunk n p t = option_map_or (λ r. (1, New (S_shared n (S.packet_unit p, r))) ∷ []) (S.B.at (S.packet_unit p) t) []
+  shared_chunk n p t = option_map_or (λ r. (1, New (ShareMsg.Shared n (S.packet_unit p, r))) ∷ []) (S.B.at (S.packet_unit p) t) []
 
   abbrev pub member_step : S.B.T → S.B.T → ShareMsg R → MemberTurn
   member_step live standby (Shared_on n true p) =
       record { live = process S live p; standby = standby; sends = shared_chunk n p (process S live p); ran = p ∷ [] }
   member_step live standby (Shared_on n false p) =
       record { live = live; standby = process S standby p; sends = shared_chunk n p (process S standby p); ran = p ∷ [] }
-  member_step live standby (S_get n g) = record { live = live; standby = standby; sends = (1, New (S_chunks n (S.B.select (S.takes g) live))) ∷ []; ran = [] }
-  member_step live standby (S_sync n true cs) = record { live = A.replace cs live; standby = standby; sends = (1, New (S_synced n)) ∷ []; ran = [] }
-  member_step live standby (S_sync n false cs) = record { live = live; standby = A.replace cs standby; sends = (1, New (S_synced n)) ∷ []; ran = [] }
+  member_step live standby (ShareMsg.Get n g) =
+      record { live = live; standby = standby; sends = (1, New (ShareMsg.Chunks n (S.B.select (S.takes g) live))) ∷ []; ran = [] }
+  member_step live standby (ShareMsg.Sync n true cs) = record { live = A.replace cs live; standby = standby; sends = (1, New (ShareMsg.Synced n)) ∷ []; ran =
+      [] }
+  member_step live standby (ShareMsg.Sync n false cs) = record { live = live; standby = A.replace cs standby; sends = (1, New (ShareMsg.Synced n)) ∷ []; ran =
+      [] }
   member_step live standby m = record { live = live; standby = standby; sends = []; ran = [] }
 
   -- the switch, on a new message
   abbrev pub share_target : (units.Unit → ℕ) → ShareMsg R → units.Unit → ℕ
-  share_target t (S_install n g from) v = if S.takes g v && (t v == from) then 1 else t v
+  share_target t (ShareMsg.Install n g from) v = if S.takes g v && (t v == from) then 1 else t v
   share_target t m v = t v
 
   abbrev pub share_sends : ShareMsg R → List (ℕ × Any R)
-  share_sends (S_install n g from) = (from, Old (Fence_on n)) ∷ []
-  share_sends (S_forward n home p to) = (to, New (Shared_on n home p)) ∷ []
+  share_sends (ShareMsg.Install n g from) = (from, Old (Fence_on n)) ∷ []
+  share_sends (ShareMsg.Forward n home p to) = (to, New (Shared_on n home p)) ∷ []
   share_sends m = []
 
   -- the whole world
@@ -263,17 +247,17 @@ module _ {R : Type 0} (S : Sys R) (A : Sharing S) where
     link = λ i j. w.link i j ++ (if i == 1 then sent_for j (as_old (begin_sends x.num x)) else []);
   }
 
-  abbrev pub begin_share : WholeWorld → WantShare → WholeWorld
+  abbrev pub begin_share : WholeWorld → ShareAsked → WholeWorld
   begin_share w x = record w {
     shares = w.shares ++ new_share x ∷ [];
     next = suc x.num;
-    link = λ i j. w.link i j ++ (if i == 1 then sent_for j ((0, New (S_install x.num x.filter x.home)) ∷ []) else []);
+    link = λ i j. w.link i j ++ (if i == 1 then sent_for j ((0, New (ShareMsg.Install x.num x.filter x.home)) ∷ []) else []);
   }
 
   -- what a copy does, which nothing here sees but for these two: its Get goes out (a number that no share has), and a Standby that is taken
   -- changes records that stand by; of no unit that a share takes, since the controller refuses a copy whose filter meets a share's
   abbrev pub puts_get : WholeWorld → ℕ → Filter → ℕ → WholeWorld
-  puts_get w n g src = record w { next = suc n; link = λ i j. w.link i j ++ (if i == 1 then sent_for j ((src, New (S_get n g)) ∷ []) else []) }
+  puts_get w n g src = record w { next = suc n; link = λ i j. w.link i j ++ (if i == 1 then sent_for j ((src, New (ShareMsg.Get n g)) ∷ []) else []) }
 
   abbrev pub keeps : WholeWorld → ℕ → S.B.T → WholeWorld
   keeps w y t = record w { standby = put w.standby y t }
@@ -283,7 +267,7 @@ module _ {R : Type 0} (S : Sys R) (A : Sharing S) where
   meets_shares g (e ∷ es) = if S.meets g e.filter then true else meets_shares g es
 
   -- a share may begin; a move may as `May` says, and where its filter meets no share's
-  pub record MayShare (w : WholeWorld) (x : WantShare) : Type 0 where
+  pub record MayShare (w : WholeWorld) (x : ShareAsked) : Type 0 where
     pub fresh : w.next ≤ x.num
     pub home_in : share.has x.members x.home ≡ true
     pub apart : distinct x.members ≡ true

@@ -1,11 +1,11 @@
 -- A unit whose move hasn't changed the rules yet: its packets are processed at the move's source, if that owns it, and no change of the
 -- rules that waits takes it.
 use Rattle.proof_machines.proofs.net.Words.{◌≡◌, ◌≢◌, ℕ, Bool, true, false, Some, None, List, [], ◌∷◌, ◌++◌, map, refl, sym, ap, ◌∙◌, subst, if◌then◌else◌}
-use Rattle.proof_machines.proofs.net.Words.{◌==◌, ◌&&◌, Decides-eqb, At_a, Steps, Item, Fence_to, Passing, Ending, Over, State, Ended, M_install, RPhase, Op}
+use Rattle.proof_machines.proofs.net.Words.{◌==◌, ◌&&◌, Decides-eqb, At_a, Steps, Item, Fence_to, Passing, Ending, Over, State, Ended, MoveMsg, MovePhase, Op}
 use Rattle.proof_machines.proofs.net.Words.{Frame, see_phase, where_true, add, Laying, Turned, Fenced_a, Ending_b, Fence_b, Turned_loose, Fenced_loose}
 use Rattle.proof_machines.proofs.net.Words.{Ending_loose, Fence_loose, Fenced_b, Moved, Returned, to_a, Each, UnitSeat, Covered, Is_beside, Is_away, seat_shape}
-use Rattle.proof_machines.proofs.net.Words.{filter_map, never_true, cons_nil, Filter, Msg, Mv, Sys, IsSys, Open, World, find_op, inst_step, seen, frame, Label}
-use Rattle.proof_machines.proofs.net.Words.{IsController, OpLabel, Holds, RestOp, none_mine, Unit}
+use Rattle.proof_machines.proofs.net.Words.{filter_map, never_true, cons_nil, Filter, Msg, Of_move, Sys, IsSys, Open, World, find_op, inst_step, seen, frame}
+use Rattle.proof_machines.proofs.net.Words.{Label, IsController, OpLabel, Holds, RestOp, none_mine, Unit}
 use Rattle.proof_machines.proofs.unit.Machine.{Install, Stray, Phase}
 use Rattle.move_op.specs.Phases.{Freezing}
 use Rattle.proof_machines.proofs.unit.Stages.{Stage, shape}
@@ -20,13 +20,13 @@ is_early Ending = false
 is_early (Over (Ended None)) = false
 is_early ph = true
 
-abbrev pub is_early_real : {R : Type 0} → RPhase R → Bool
+abbrev pub is_early_real : {R : Type 0} → MovePhase R → Bool
 is_early_real Passing = false
 is_early_real Ending = false
 is_early_real (Over None) = false
 is_early_real ph = true
 
-seen_early : {R : Type 0} (v : Frame) (ph : RPhase R) → is_early (see_phase v ph) ≡ is_early_real ph
+seen_early : {R : Type 0} (v : Frame) (ph : MovePhase R) → is_early (see_phase v ph) ≡ is_early_real ph
 seen_early v Freezing = refl
 seen_early v phase = refl
 
@@ -116,7 +116,7 @@ module _ {R : Type 0} (S : Sys R) (laws : IsSys S) (w : World S) (n : ℕ) (e : 
         by_link (From_sc at it v is k) = cons_nil (sym (sym seated.is.sc ∙ is))
 
     -- and a change of the rules that the switch takes next doesn't take the unit
-    pub untaken : (g : Filter) (k from to : ℕ) (rest : List (Msg R)) → w.link 1 0 ≡ Mv g (M_install k from to) ∷ rest → S.takes g u ≡ false
+    pub untaken : (g : Filter) (k from to : ℕ) (rest : List (Msg R)) → w.link 1 0 ≡ Of_move g (MoveMsg.Install k from to) ∷ rest → S.takes g u ≡ false
     untaken g k from to rest waits = by_test (k == e.op.num) refl
       where
         label : S.takes g u ≡ (k == e.op.num)

@@ -1,19 +1,19 @@
 -- What a move stored has gone on before its last fence: then nothing is stored for it.
-use Rattle.proof_machines.proofs.net.Words.{◌≡◌, ℕ, Bool, true, false, Some, List, [], ◌∷◌, refl, sym, ap, ◌∙◌, subst, if◌then◌else◌, ◌==◌, Decides-eqb, RPhase}
-use Rattle.proof_machines.proofs.net.Words.{Frame, see_phase, Undoing, seat_shape, cons_nil, Sys, IsSys, Open, find_op, World, frame, OpLabel, IsController}
-use Rattle.proof_machines.proofs.net.Words.{none_mine, Global, same_unit, same_unit_equiv, either_way, Unit}
+use Rattle.proof_machines.proofs.net.Words.{◌≡◌, ℕ, Bool, true, false, Some, List, [], ◌∷◌, refl, sym, ap, ◌∙◌, subst, if◌then◌else◌, ◌==◌, Decides-eqb}
+use Rattle.proof_machines.proofs.net.Words.{MovePhase, Frame, see_phase, Undoing, seat_shape, cons_nil, Sys, IsSys, Open, find_op, World, frame, OpLabel}
+use Rattle.proof_machines.proofs.net.Words.{IsController, none_mine, Global, same_unit, same_unit_equiv, either_way, Unit}
 use Rattle.move_op.specs.Phases.{Ending}
 use Rattle.proof_machines.proofs.unit.Sides.{is_released, seat_stands}
 use Rattle.proof_machines.proofs.net.Ctrl.{each_found}
 use Rattle.proof_machines.proofs.net.Units.{Where, shown, see as seeing}
 
 -- the last fence is awaited
-abbrev pub ends : {R : Type 0} → RPhase R → Bool
+abbrev pub ends : {R : Type 0} → MovePhase R → Bool
 ends Ending = true
 ends (Undoing why) = true
 ends phase = false
 
-ends_released : {R : Type 0} (v : Frame) (p : RPhase R) → ends p ≡ true → is_released (see_phase v p) ≡ true
+ends_released : {R : Type 0} (v : Frame) (p : MovePhase R) → ends p ≡ true → is_released (see_phase v p) ≡ true
 ends_released v Ending e = refl
 ends_released v (Undoing why) e = refl
 ends_released v p e = cc

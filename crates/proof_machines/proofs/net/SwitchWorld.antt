@@ -1,12 +1,12 @@
 -- The switch's step, and a packet of the input, lead from a world that shows a seat to one that shows a seat.
 use Rattle.proof_machines.proofs.net.Words.{◌≡◌, ◌≢◌, ℕ, ◌≤◌, Bool, true, false, Option, Some, None, List, [], ◌∷◌, ◌++◌, drop, refl, sym, ap, ◌∙◌, subst}
 use Rattle.proof_machines.proofs.net.Words.{append-nil, arith, if◌then◌else◌, ◌&&◌, ◌==◌, nat_tests, Decides-eqb, and_parts, Where, At_a, At_b, At_c, Item}
-use Rattle.proof_machines.proofs.net.Words.{Pass, Fence_to, State, moved, switch_does, redirected, send_to, M_forward, M_install, M_fence_to, where_true, add}
-use Rattle.proof_machines.proofs.net.Words.{Nodes, expect, after_take, switch_from_c, nothing_seen, arrives_at, By_sa, By_sb, By_sc, By_ca, By_cb, By_ac, By_bc}
-use Rattle.proof_machines.proofs.net.Words.{By_cc, By_cs, shown_by, Each, UnitSeat, seat_shape, seat_all, seat_loose, filter_map, never_true, Filter, sw_next}
-use Rattle.proof_machines.proofs.net.Words.{in_next, Msg, In_packet, Asked, Carry_on, Pass_on, Fence_on, Mv, Sys, IsSys, Open, find_op, sw_target, sw_sends}
-use Rattle.proof_machines.proofs.net.Words.{World, links_after, seen, Seeing, EachSent, frame, Label, shows, node_at, place, Holds, IsController, sent, head}
-use Rattle.proof_machines.proofs.net.Words.{view_some, view_none, view_put, each_after, each_put, same_unit, same_unit-true, either_way, split}
+use Rattle.proof_machines.proofs.net.Words.{Pass, Fence_to, State, moved, switch_does, redirected, send_to, MoveMsg, where_true, add, Nodes, expect, after_take}
+use Rattle.proof_machines.proofs.net.Words.{switch_from_c, nothing_seen, arrives_at, By_sa, By_sb, By_sc, By_ca, By_cb, By_ac, By_bc, By_cc, By_cs, shown_by}
+use Rattle.proof_machines.proofs.net.Words.{Each, UnitSeat, seat_shape, seat_all, seat_loose, filter_map, never_true, Filter, sw_next, in_next, Msg, In_packet}
+use Rattle.proof_machines.proofs.net.Words.{Asked, Carry_on, Pass_on, Fence_on, Of_move, Sys, IsSys, Open, find_op, sw_target, sw_sends, World, links_after}
+use Rattle.proof_machines.proofs.net.Words.{seen, Seeing, EachSent, frame, Label, shows, node_at, place, Holds, IsController, sent, head, view_some, view_none}
+use Rattle.proof_machines.proofs.net.Words.{view_put, each_after, each_put, same_unit, same_unit-true, either_way, split}
 use Rattle.proof_machines.proofs.unit.Machine.{Carry, Fence, Forward, Install, Stray, Arrive, Take_cs}
 use Rattle.proof_machines.proofs.unit.Lists.{head_passes}
 use Rattle.proof_machines.proofs.unit.Sides.{for_switch, seat_stands}
@@ -18,9 +18,9 @@ module _ {R : Type 0} (S : Sys R) (laws : IsSys S) (z : Seeing) where
   its ms = filter_map (seen (frame S z)) ms
 
   sends_label : (m : Msg R) → EachSent (λ j q. Label S z 0 q) (sw_sends m)
-  sends_label (Mv g (M_forward p to)) = (tt, tt)
-  sends_label (Mv g (M_install n from to)) = (tt, tt)
-  sends_label (Mv g (M_fence_to n to)) = (tt, tt)
+  sends_label (Of_move g (MoveMsg.Forward p to)) = (tt, tt)
+  sends_label (Of_move g (MoveMsg.Install n from to)) = (tt, tt)
+  sends_label (Of_move g (MoveMsg.Fence_to n to)) = (tt, tt)
   sends_label m = tt
 
   -- the controller of a state that has its move as it was
@@ -171,7 +171,7 @@ module _ {R : Type 0} (S : Sys R) (laws : IsSys S) (z : Seeing) where
   idle_case at true it is none target does = sw_idle at it is (does _) none target
   idle_case at false it is none target does = quiet_sw at is (λ j. ap (λ xs. sent S z 0 xs j) none ∙ nil_sent j) target
 
-  forward_case : (g : Filter) (q to : ℕ) (at : Waits (Mv g (M_forward q to))) → Leads at
+  forward_case : (g : Filter) (q to : ℕ) (at : Waits (Of_move g (MoveMsg.Forward q to))) → Leads at
   forward_case g q to at =
       either_way (same_unit (S.packet_unit q) z.unit)
       (λ ours. either_way (to == z.op.src)
@@ -181,7 +181,7 @@ module _ {R : Type 0} (S : Sys R) (laws : IsSys S) (z : Seeing) where
       (λ nb. never_true (is_for at Stray (rw (ours, na, nb) refl)))))
       (λ off. quiet_sw at (rw off refl) (one_unseen S laws z 0 to (Pass_on q) (rw off refl)) refl)
 
-  fence_case : (g : Filter) (k to : ℕ) (at : Waits (Mv g (M_fence_to k to))) → Leads at
+  fence_case : (g : Filter) (k to : ℕ) (at : Waits (Of_move g (MoveMsg.Fence_to k to))) → Leads at
   fence_case g k to at =
       either_way (k == z.op.num)
       (λ ours. either_way (to == z.op.src)
@@ -204,7 +204,7 @@ module _ {R : Type 0} (S : Sys R) (laws : IsSys S) (z : Seeing) where
       let ac = n.ac in
       let g : from ≡ z.op.src = (Decides-eqb from z.op.src).0 f in let off : (r == from) ≡ false = grind (arith, nat_tests, is, g, ac) in rw (e, off) is
 
-  install_case : (g : Filter) (k from to : ℕ) (at : Waits (Mv g (M_install k from to))) → Leads at
+  install_case : (g : Filter) (k from to : ℕ) (at : Waits (Of_move g (MoveMsg.Install k from to))) → Leads at
   install_case g k from to at =
       let lab = (label at).1 in
       either_way (k == z.op.num)
@@ -218,9 +218,9 @@ module _ {R : Type 0} (S : Sys R) (laws : IsSys S) (z : Seeing) where
       (let out : S.takes g z.unit ≡ false = lab ∙ off in rw out refl))
 
   by_message : (m : Msg R) (at : Waits m) → Leads at
-  by_message (Mv g (M_forward q to)) at = forward_case g q to at
-  by_message (Mv g (M_install k from to)) at = install_case g k from to at
-  by_message (Mv g (M_fence_to k to)) at = fence_case g k to at
+  by_message (Of_move g (MoveMsg.Forward q to)) at = forward_case g q to at
+  by_message (Of_move g (MoveMsg.Install k from to)) at = install_case g k from to at
+  by_message (Of_move g (MoveMsg.Fence_to k to)) at = fence_case g k to at
   by_message (In_packet q) at = quiet_sw at refl nil_sent refl
   by_message (Asked a) at = quiet_sw at refl nil_sent refl
   by_message m at = idle_case at _ _ refl refl refl (λ u. refl)

@@ -1,10 +1,10 @@
 -- A begun move leaves its units in a move, with all their packets that arrived.
 use Rattle.proof_machines.proofs.unit.Path.{all_carries}
 use Rattle.proof_machines.proofs.net.Words.{◌||◌, ◌≡◌, ◌≢◌, ℕ, suc, ◌+◌, ◌≤◌, ◌<◌, Bool, true, false, Some, List, [], ◌∷◌, ◌++◌, refl, sym, ap, ◌∙◌, subst}
-use Rattle.proof_machines.proofs.net.Words.{arith, if◌then◌else◌, ◌||◌, ◌==◌, nat_tests, Decides-eqb, At_a, At_b, At_c, Ran, Drops, Enable, Freezing}
-use Rattle.proof_machines.proofs.net.Words.{Begin, moved, Over, firsts, IsOrderedAs, Op, Nodes, rest_at, seat_at, seat_begins, UnitSeat, is_covered, seat_shape}
-use Rattle.proof_machines.proofs.net.Words.{seat_all, seat_loose, Filter, begin_next, MoveAsked, Sys, IsSys, Open, find_op, meets_any, new_op, World, OpLabel}
-use Rattle.proof_machines.proofs.net.Words.{place, Rest, Global, either_way, split, false_from_ne_true, Unit, Side}
+use Rattle.proof_machines.proofs.net.Words.{arith, if◌then◌else◌, ◌==◌, nat_tests, Decides-eqb, At_a, At_b, At_c, Ran, Drops, Enable, Freezing, Begin, moved}
+use Rattle.proof_machines.proofs.net.Words.{Over, firsts, IsOrderedAs, Op, Nodes, rest_at, seat_at, seat_begins, UnitSeat, is_covered, seat_shape, seat_all}
+use Rattle.proof_machines.proofs.net.Words.{seat_loose, Filter, begin_next, MoveAsked, Sys, IsSys, Open, find_op, meets_any, new_op, World, OpLabel, place}
+use Rattle.proof_machines.proofs.net.Words.{Rest, Global, either_way, split, false_from_ne_true, Unit, Side}
 use Rattle.proof_machines.proofs.unit.Machine.{Idle}
 use Rattle.proof_machines.proofs.net.Ctrl.{each_found}
 use Rattle.proof_machines.proofs.net.InstWorld.{moves_on}

@@ -3,9 +3,8 @@
 use Rattle.proof_machines.proofs.net.Words.{◌≡◌, ℕ, suc, ◌≤◌, ◌<◌, Bool, true, false, List, [], ◌∷◌, ◌++◌, refl, sym, ap, ◌∙◌, arith, if◌then◌else◌, ◌==◌}
 use Rattle.proof_machines.proofs.net.Words.{nat_tests, Decides-eqb, sent_for, Each, each-append, shape, Filter, Msg, Asked, MoveAsked, Sys, IsSys, Open, new_op}
 use Rattle.proof_machines.proofs.net.Words.{begin_sends, EachSent, RestOp, NothingOf, found_each, find_more, Disjoint, disjoint_sym, GlobalAll, unit_share}
-use Rattle.proof_machines.proofs.net.Words.{share_items, own_of, own_at, as_share, Any, Old, New, S_asked, S_install, S_get, WantShare, as_old, Sharing}
-use Rattle.proof_machines.proofs.net.Words.{OpenShare, new_share, find_share, WholeWorld, moves_of, asks, begin_move, begin_share, puts_get, keeps}
-use Rattle.proof_machines.proofs.net.Words.{meets_shares, SeeingShare, split}
+use Rattle.proof_machines.proofs.net.Words.{share_items, own_of, own_at, as_share, Any, Old, New, ShareMsg, ShareAsked, as_old, Sharing, OpenShare, new_share}
+use Rattle.proof_machines.proofs.net.Words.{find_share, WholeWorld, moves_of, asks, begin_move, begin_share, puts_get, keeps, meets_shares, SeeingShare, split}
 use Rattle.proof_machines.proofs.net.Units.{May, apart_of}
 use Rattle.proof_machines.proofs.net.AsMoves.{old_sends, old_sends-old}
 use Rattle.proof_machines.proofs.net.GlobalBegins.{meets_none}
@@ -50,18 +49,19 @@ module _ {R : Type 0} (S : Sys R) (A : Sharing S) (z : SeeingShare) (w : WholeWo
       ((refl, (off, refl)), tt)
 
   -- another share
-  pub under_begin_share : GlobalAll S A w → (x : WantShare) → w.next ≤ x.num → Goes_on S A z u.stage (begin_share S A w x) before since
+  pub under_begin_share : GlobalAll S A w → (x : ShareAsked) → w.next ≤ x.num → Goes_on S A z u.stage (begin_share S A w x) before since
   under_begin_share g x fresh =
       let off = new_num g x.num fresh in
-      put_unseen w.ops (w.shares ++ new_share x ∷ []) (suc x.num) 1 ((0, New (S_install x.num x.filter x.home)) ∷ []) [] refl
-      (λ j. lone_unseen S A z 0 j (New (S_install x.num x.filter x.home)) (λ r. rw off refl)) (find_more w.shares (new_share x) z.num
+      put_unseen w.ops (w.shares ++ new_share x ∷ []) (suc x.num) 1 ((0, New (ShareMsg.Install x.num x.filter x.home)) ∷ []) [] refl
+      (λ j. lone_unseen S A z 0 j (New (ShareMsg.Install x.num x.filter x.home)) (λ r. rw off refl)) (find_more w.shares (new_share x) z.num
       (as_share S A z (shape (unit_share S A z) u.stage).phase (shape (unit_share S A z) u.stage).queue) u.holds.share ∙ sym u.holds.share) u.ops tt
 
   -- a copy's Get
   pub under_get : GlobalAll S A w → (n : ℕ) (h : Filter) (src : ℕ) → w.next ≤ n → Goes_on S A z u.stage (puts_get S A w n h src) before since
   under_get g n h src fresh =
       let off = new_num g n fresh in
-      put_unseen w.ops w.shares (suc n) 1 ((src, New (S_get n h)) ∷ []) [] refl (λ j. lone_unseen S A z src j (New (S_get n h)) (λ r. rw off refl)) refl
+      put_unseen w.ops w.shares (suc n) 1 ((src, New (ShareMsg.Get n h)) ∷ []) [] refl
+          (λ j. lone_unseen S A z src j (New (ShareMsg.Get n h)) (λ r. rw off refl)) refl
       u.ops tt
 
   -- a command for a move, and one for a share
@@ -69,9 +69,10 @@ module _ {R : Type 0} (S : Sys R) (A : Sharing S) (z : SeeingShare) (w : WholeWo
   under_asks_move x = put_unseen w.ops w.shares w.next 0 ((1, Old (Asked x)) ∷ []) ((1, Asked x) ∷ []) refl
       (λ j. lone_unseen S A z 1 j (Old (Asked x)) (λ r. refl)) refl u.ops (tt, tt)
 
-  pub under_asks_share : (x : WantShare) → Goes_on S A z u.stage (asks S A w (New (S_asked x))) before since
+  pub under_asks_share : (x : ShareAsked) → Goes_on S A z u.stage (asks S A w (New (ShareMsg.Asked x))) before since
   under_asks_share x =
-      put_unseen w.ops w.shares w.next 0 ((1, New (S_asked x)) ∷ []) [] refl (λ j. lone_unseen S A z 1 j (New (S_asked x)) (λ r. refl)) refl u.ops tt
+      put_unseen w.ops w.shares w.next 0 ((1, New (ShareMsg.Asked x)) ∷ []) [] refl (λ j. lone_unseen S A z 1 j (New (ShareMsg.Asked x)) (λ r. refl)) refl
+          u.ops tt
 
   -- what an instance keeps of a copy has nothing new of the unit
   pub under_keeps : (y : ℕ) (t : S.B.T) → S.B.at z.unit t ≡ S.B.at z.unit (w.standby y) → Goes_on S A z u.stage (keeps S A w y t) before since

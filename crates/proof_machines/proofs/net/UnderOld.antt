@@ -3,10 +3,11 @@
 use Rattle.proof_machines.proofs.unit.Lists.{cons_option_nil}
 use Rattle.proof_machines.proofs.NumberedLists.{none_below}
 use Rattle.proof_machines.proofs.net.Words.{find_rule, ◌≡◌, ℕ, ◌≤◌, ◌<◌, Bool, true, false, Option, Some, None, List, [], ◌∷◌, refl, sym, ap, ◌∙◌, subst, arith}
-use Rattle.proof_machines.proofs.net.Words.{if◌then◌else◌, ◌==◌, nat_tests, self, Op, where_true, sent_for, only_mine, off_if, NodesDiffer, Each}
-use Rattle.proof_machines.proofs.net.Words.{filter_map, rest_at, Filter, Msg, Carry_on, Pass_on, Fence_on, Mv, Sys, IsSys, rule_of, held_of, NumberedInstance}
+use Rattle.proof_machines.proofs.net.Words.{if◌then◌else◌, ◌==◌, nat_tests, self, Op, where_true, sent_for, only_mine, off_if, NodesDiffer, Each, filter_map}
+use Rattle.proof_machines.proofs.net.Words.{rest_at, Filter, Msg, Carry_on, Pass_on, Fence_on, Of_move, Sys, IsSys, rule_of, held_of, NumberedInstance}
 use Rattle.proof_machines.proofs.net.Words.{InstanceTurn, says, on_move, inst_step, Open, find_op, ControllerMove, ctrl_step, seen, Seeing, EachSent, frame}
 use Rattle.proof_machines.proofs.net.Words.{Label, OpLabel, SeesNode, IsController, Below, RestRule, RestOp, NothingOf, none_mine, same_unit, either_way, Unit}
+use Rattle.proof_machines.proofs.net.Words.{MoveMsg}
 use Rattle.proof_machines.proofs.unit.Machine as moves
 use Rattle.proof_machines.proofs.unit.Real
 use Rattle.proof_machines.proofs.net.Insts.{InstanceGoes, does, carry_goes, pass_goes, fence_goes}
@@ -53,7 +54,7 @@ module _ {R : Type 0} (S : Sys R) (laws : IsSys S) (u : Unit) where
     its ms = filter_map (seen (frame S z)) ms
 
     nothing_one : (i : ℕ) (m : Msg R) → seen (frame S z) m ≡ None → Label S z i m → NothingOf S u i m
-    nothing_one i (Mv g m) none l = (l.0, mv_nothing S z g m none l.1)
+    nothing_one i (Of_move g m) none l = (l.0, mv_nothing S z g m none l.1)
     nothing_one i (Pass_on p) none l = off_if (mine p) _ none
     nothing_one i m none l = tt
 
@@ -109,7 +110,7 @@ module _ {R : Type 0} (S : Sys R) (laws : IsSys S) (u : Unit) where
         ran = g.ran;
       }
 
-      of_move : (g : Filter) (m : Real.Msg R) → MovesInstance S laws z (self b) moves.At_a i x sees (on_move S i g m) (Real.seen (frame S z) m)
+      of_move : (g : Filter) (m : MoveMsg R) → MovesInstance S laws z (self b) moves.At_a i x sees (on_move S i g m) (Real.seen (frame S z) m)
           → Real.seen (frame S z) m ≡ None → Goes (on_move S i g m) None
       of_move g m (Any f) none = subst (λ o. Goes (on_move S i g m) o) none (f [] None)
       of_move g m (Streams_out parts fits is f) none = let never : Some moves.Stream ≡ None = sym is ∙ none in cc
@@ -129,7 +130,7 @@ module _ {R : Type 0} (S : Sys R) (laws : IsSys S) (u : Unit) where
           let off : (n == b) ≡ false = grind (arith, nat_tests, few_m) in
           unseen (inst_step S i (Fence_on n))
           (subst (λ t. Goes (inst_step S i (Fence_on n)) (where_true t moves.Fence)) off (fence_goes S laws z (self b) moves.At_a i x sees n [] None))
-      inst_leaves k (Mv g m) few_m h = unseen (on_move S i g m)
+      inst_leaves k (Of_move g m) few_m h = unseen (on_move S i g m)
           (of_move g m (move_goes S laws z (self b) moves.At_a i x sees g m (mv_label S z b le_self g m few_m h.1)) (mv_unseen S z b le_self g m few_m h.1))
       inst_leaves k m few_m h = quiet
 
@@ -162,14 +163,14 @@ module _ {R : Type 0} (S : Sys R) (laws : IsSys S) (u : Unit) where
       as_before = record { ops = rests; sends = tt }
 
       pub ctrl_leaves : (port k : ℕ) (m : Msg R) → Below b m → NothingOf S u k m → LeavesController (ctrl_step es port m)
-      ctrl_leaves port k (Mv g m) few_m h =
+      ctrl_leaves port k (Of_move g m) few_m h =
           let none = mv_unseen S z b le_self g m few_m h.1 in
-          let does = ctrl_unit S z es at_rest apart labs is port k (Mv g m) (h.0, mv_label S z b le_self g m few_m h.1) (λ it _ some.
+          let does = ctrl_unit S z es at_rest apart labs is port k (Of_move g m) (h.0, mv_label S z b le_self g m few_m h.1) (λ it _ some.
           let never : None ≡ Some it = sym none ∙ some in cc) in
-          let quiet = subst (λ o. SeesController S z es at_rest apart labs is (ctrl_step es port (Mv g m))
+          let quiet = subst (λ o. SeesController S z es at_rest apart labs is (ctrl_step es port (Of_move g m))
           (mdid S z es at_rest apart labs is (port == 2) (port == 3) (moves.Over moves.Idle) [] o)) none does in
           record {
-            ops = ops_rest S z (ctrl_step es port (Mv g m)).ops (ctrl_none es port (Mv g m) b none_open) quiet.ops;
-            sends = nothing_sent (ctrl_step es port (Mv g m)).sends quiet.labels (of_none (ctrl_step es port (Mv g m)) quiet);
+            ops = ops_rest S z (ctrl_step es port (Of_move g m)).ops (ctrl_none es port (Of_move g m) b none_open) quiet.ops;
+            sends = nothing_sent (ctrl_step es port (Of_move g m)).sends quiet.labels (of_none (ctrl_step es port (Of_move g m)) quiet);
           }
       ctrl_leaves port k m few_m h = as_before

@@ -1,13 +1,12 @@
 -- A share begins: a unit that rests at its home, and that its filter takes, is under the share (`under_starts`).
 use Rattle.proof_machines.proofs.net.Words.{◌≡◌, ℕ, ◌≤◌, ◌<◌, Bool, true, false, Option, Some, None, List, [], ◌∷◌, ◌++◌, map, refl, sym, ap, ◌∙◌, append-nil}
-use Rattle.proof_machines.proofs.net.Words.{arith, if◌then◌else◌, ◌&&◌, ◌==◌, nat_tests, Decides-eqb, Steps, firsts, M_fenced, M_install, M_fence_to}
-use Rattle.proof_machines.proofs.net.Words.{where_true, add, sent_for, Each, Carry, Fence, Install, Stray, View, runs, only, Diverting, packets, shape, IsFront}
-use Rattle.proof_machines.proofs.net.Words.{self, In_packet, Asked, Carry_on, Pass_on, Fence_on, Mv, Sys, num_of, Rest, Below, IsBelow, NothingOf, carries_of}
-use Rattle.proof_machines.proofs.net.Words.{done_u, found_each, find_new, Numbered, Disjoint, TakesSome, OfShare, GlobalAll, mine, share_expect, unit_share}
-use Rattle.proof_machines.proofs.net.Words.{move_seen, new_seen, share_items, own_of, Any, Old, New, ShareMsg, Shared_on, Diverted_on, S_asked, S_install}
-use Rattle.proof_machines.proofs.net.Words.{S_forward, S_get, S_sync, S_chunks, S_shared, S_synced, WantShare, EachNew, olds, Sharing, IsSharing, OpenShare}
-use Rattle.proof_machines.proofs.net.Words.{new_share, find_share, WholeWorld, moves_of, begin_share, MayShare, ran_of, SeeingShare, same_unit, same_unit-true}
-use Rattle.proof_machines.proofs.net.Words.{false_from_ne_true, Unit, split}
+use Rattle.proof_machines.proofs.net.Words.{arith, if◌then◌else◌, ◌&&◌, ◌==◌, nat_tests, Decides-eqb, Steps, firsts, MoveMsg, where_true, add, sent_for, Each}
+use Rattle.proof_machines.proofs.net.Words.{Carry, Fence, Install, Stray, View, runs, only, Diverting, packets, shape, IsFront, self, In_packet, Asked}
+use Rattle.proof_machines.proofs.net.Words.{Carry_on, Pass_on, Fence_on, Of_move, Sys, num_of, Rest, Below, IsBelow, NothingOf, carries_of, done_u, found_each}
+use Rattle.proof_machines.proofs.net.Words.{find_new, Numbered, Disjoint, TakesSome, OfShare, GlobalAll, mine, share_expect, unit_share, move_seen, new_seen}
+use Rattle.proof_machines.proofs.net.Words.{share_items, own_of, Any, Old, New, ShareMsg, Shared_on, Diverted_on, ShareAsked, EachNew, olds, Sharing, IsSharing}
+use Rattle.proof_machines.proofs.net.Words.{OpenShare, new_share, find_share, WholeWorld, moves_of, begin_share, MayShare, ran_of, SeeingShare, same_unit}
+use Rattle.proof_machines.proofs.net.Words.{same_unit-true, false_from_ne_true, Unit, split}
 use Rattle.proof_machines.proofs.unit.Machine as moves
 use Rattle.proof_machines.proofs.unit.Real
 use Rattle.proof_machines.proofs.share.Share.{Ran, Item, after}
@@ -23,7 +22,7 @@ fold_packets F o (d ∷ ds) = fold_packets F (Some (F.step o d.0)) ds
 
 module _ {R : Type 0} (S : Sys R) (A : Sharing S) (u : Unit) where
   -- a unit and the share that is asked for
-  abbrev pub seeing : WantShare → SeeingShare
+  abbrev pub seeing : ShareAsked → SeeingShare
   seeing x = record { unit = u; num = x.num; home = x.home; members = x.members; filter = x.filter }
 
   -- a record that stands by is the fold of a front of what was done
@@ -37,7 +36,7 @@ module _ {R : Type 0} (S : Sys R) (A : Sharing S) (u : Unit) where
   packets_done (d ∷ ds) = elim (same_unit (S.packet_unit d.0) u) as (λ b. packets (if b then d ∷ ran_of S A u ds else ran_of S A u ds)
       ≡ (if b then d.0 ∷ done_u S u ds else done_u S u ds)) [ true ↦ ap (λ v. d.0 ∷ v) (packets_done ds) | false ↦ packets_done ds ]
 
-  module _ (w : WholeWorld S A) (g : GlobalAll S A w) (x : WantShare) (fresh : w.next ≤ x.num) (covered : S.takes x.filter u ≡ true)
+  module _ (w : WholeWorld S A) (g : GlobalAll S A w) (x : ShareAsked) (fresh : w.next ≤ x.num) (covered : S.takes x.filter u ≡ true)
       (apart : Each (λ e. Disjoint S x.filter e.filter) w.shares) where
     abbrev z : SeeingShare
     z = seeing x
@@ -70,20 +69,20 @@ module _ {R : Type 0} (S : Sys R) (A : Sharing S) (u : Unit) where
     new_none j (Shared_on n home p) of few =
         let other = share_off n of.share of.found in let its = others_packet n p of.share of.found of.says.0 in rw (other, its) refl
     new_none j (Diverted_on p) of few = let out = diverted_off (S.packet_unit p) of.1 in let its = not_mine p out in rw (out, its) refl
-    new_none j (S_asked a) of few = refl
-    new_none j (S_install n h from) of few = let other = share_off n of.share of.found in rw other refl
-    new_none j (S_forward n home p to) of few =
+    new_none j (ShareMsg.Asked a) of few = refl
+    new_none j (ShareMsg.Install n h from) of few = let other = share_off n of.share of.found in rw other refl
+    new_none j (ShareMsg.Forward n home p to) of few =
         let other = share_off n of.share of.found in let its = others_packet n p of.share of.found of.says.0 in rw (other, its) refl
-    new_none j (S_get n h) of few = let other = off n few in rw other refl
-    new_none j (S_sync n home cs) of few = let other = share_off n of.share of.found in rw other refl
-    new_none j (S_chunks n cs) of few = let other = off n few in rw other refl
-    new_none j (S_shared n c) of few = let other = share_off n of.share of.found in rw other refl
-    new_none j (S_synced n) of few = let other = share_off n of.share of.found in rw other refl
+    new_none j (ShareMsg.Get n h) of few = let other = off n few in rw other refl
+    new_none j (ShareMsg.Sync n home cs) of few = let other = share_off n of.share of.found in rw other refl
+    new_none j (ShareMsg.Chunks n cs) of few = let other = off n few in rw other refl
+    new_none j (ShareMsg.Shared n c) of few = let other = share_off n of.share of.found in rw other refl
+    new_none j (ShareMsg.Synced n) of few = let other = share_off n of.share of.found in rw other refl
 
-    move_none : (m : Real.Msg R) → IsBelow w.next (num_of m) → move_seen S A z m ≡ None
-    move_none (M_fenced n) few = let other = off n few in rw other refl
-    move_none (M_install n a b) few = let other = off n few in rw other refl
-    move_none (M_fence_to n to) few = let other = off n few in rw other refl
+    move_none : (m : MoveMsg R) → IsBelow w.next (num_of m) → move_seen S A z m ≡ None
+    move_none (MoveMsg.Fenced n) few = let other = off n few in rw other refl
+    move_none (MoveMsg.Install n a b) few = let other = off n few in rw other refl
+    move_none (MoveMsg.Fence_to n to) few = let other = off n few in rw other refl
     move_none m few = refl
 
     -- so the unit sees its plain packets
@@ -97,16 +96,16 @@ module _ {R : Type 0} (S : Sys R) (A : Sharing S) (u : Unit) where
     plain i j (Old (Pass_on p) ∷ ms) of few below h = ap (λ b. add (where_true b Stray) (share_items S A z j ms)) h.0 ∙ plain i j ms of few below.1 h.1
     plain i j (Old (Fence_on n) ∷ ms) of few below h =
         ap (λ b. add (where_true b Fence) (share_items S A z j ms)) (off n below.0) ∙ plain i j ms of few below.1 h.1
-    plain i j (Old (Mv k m) ∷ ms) of few below h = ap (λ o. add o (share_items S A z j ms)) (move_none m below.0) ∙ plain i j ms of few below.1 h.1
+    plain i j (Old (Of_move k m) ∷ ms) of few below h = ap (λ o. add o (share_items S A z j ms)) (move_none m below.0) ∙ plain i j ms of few below.1 h.1
     plain i j (Old (In_packet p) ∷ ms) of few below h = plain i j ms of few below.1 h.1
     plain i j (Old (Asked a) ∷ ms) of few below h = plain i j ms of few below.1 h.1
 
     abbrev install : List (ℕ × Any R)
-    install = (0, New (S_install x.num x.filter x.home)) ∷ []
+    install = (0, New (ShareMsg.Install x.num x.filter x.home)) ∷ []
 
     install_seen : (j : ℕ) → share_items S A z j (sent_for j install) ≡ (if 0 == j then Install ∷ [] else [])
     install_seen j =
-        split (0 == j) (λ b. share_items S A z j (if b then New (S_install x.num x.filter x.home) ∷ [] else []) ≡ (if b then Install ∷ [] else []))
+        split (0 == j) (λ b. share_items S A z j (if b then New (ShareMsg.Install x.num x.filter x.home) ∷ [] else []) ≡ (if b then Install ∷ [] else []))
         (λ _. (let num = self x.num in let home = self x.home in rw (num, home) refl)) (λ _. refl)
 
     map_if : (b : Bool) (l : List ℕ) → map {A = ℕ} {B = Item R} Carry (if b then l else []) ≡ (if b then map Carry l else [])

@@ -1,12 +1,12 @@
 -- Each node's step keeps a unit under a share.
 use Rattle.proof_machines.proofs.unit.Labels.{each_map}
 use Rattle.proof_machines.proofs.net.Words.{◌≡◌, ℕ, Bool, true, false, None, List, [], ◌∷◌, ◌++◌, ◌⊎◌, inl, inr, refl, sym, ap, ◌∙◌, append-nil, append_assoc}
-use Rattle.proof_machines.proofs.net.Words.{arith, if◌then◌else◌, ◌&&◌, ◌==◌, nat_tests, Decides-eqb, neither, M_install, M_fence_to, M_forward, where_true}
-use Rattle.proof_machines.proofs.net.Words.{add, Each, Carry, Arrive, has, if_mine, Stage, Diverting, late, shape, IsShare, FitsStage, goes_on, to_members}
-use Rattle.proof_machines.proofs.net.Words.{meets_sw, meets_to, Msg, Carry_on, Pass_on, Mv, Sys, IsSys, inst_step, sw_sends, ctrl_step, EachSent, Below}
-use Rattle.proof_machines.proofs.net.Words.{RestRule, NothingOf, OfShare, GlobalAll, mine, share_seen, share_items, own_at, Any, Old, New, ShareMsg}
-use Rattle.proof_machines.proofs.net.Words.{Diverted_on, S_install, as_old, Sharing, IsSharing, told_by, by_share, share_sends, arrive_sends, WholeWorld}
-use Rattle.proof_machines.proofs.net.Words.{whole_inst, whole_ctrl, whole_switch, whole_input, SeeingShare, either_way, split, placed}
+use Rattle.proof_machines.proofs.net.Words.{arith, if◌then◌else◌, ◌&&◌, ◌==◌, nat_tests, Decides-eqb, neither, MoveMsg, where_true, add, Each, Carry, Arrive}
+use Rattle.proof_machines.proofs.net.Words.{has, if_mine, Stage, Diverting, late, shape, IsShare, FitsStage, goes_on, to_members, meets_sw, meets_to, Msg}
+use Rattle.proof_machines.proofs.net.Words.{Carry_on, Pass_on, Of_move, Sys, IsSys, inst_step, sw_sends, ctrl_step, EachSent, Below, RestRule, NothingOf}
+use Rattle.proof_machines.proofs.net.Words.{OfShare, GlobalAll, mine, share_seen, share_items, own_at, Any, Old, New, ShareMsg, Diverted_on, as_old, Sharing}
+use Rattle.proof_machines.proofs.net.Words.{IsSharing, told_by, by_share, share_sends, arrive_sends, WholeWorld, whole_inst, whole_ctrl, whole_switch}
+use Rattle.proof_machines.proofs.net.Words.{whole_input, SeeingShare, either_way, split, placed}
 use Rattle.proof_machines.proofs.share.Share.{moved}
 use Rattle.proof_machines.proofs.net.AsMoves.{old_sends, old_sends-append, old_sends-old, member_new, by_share_new}
 use Rattle.proof_machines.proofs.net.NewMessages.{new_head}
@@ -24,7 +24,7 @@ use Rattle.proof_machines.proofs.net.Under.{f, Under, Goes_on, NextStage, stays,
 module _ {R : Type 0} (S : Sys R) (A : Sharing S) (z : SeeingShare) where
   -- which instance sends is nothing to a message
   of_sender : (y : ℕ) → (y == 0) ≡ false → (m : Msg R) → NothingOf S z.unit 1 m → NothingOf S z.unit y m
-  of_sender y y0 (Mv g m) h = (y0, h.1)
+  of_sender y y0 (Of_move g m) h = (y0, h.1)
   of_sender y y0 (Pass_on p) h = h
   of_sender y y0 m h = tt
 
@@ -158,13 +158,13 @@ module _ {R : Type 0} (S : Sys R) (A : Sharing S) (z : SeeingShare) where
 
     -- The switch
     switch_labels : (k : ℕ) (m : Msg R) → NothingOf S z.unit k m → EachSent (λ _ m. NothingOf S z.unit 0 m) (sw_sends m)
-    switch_labels k (Mv g (M_forward q to)) h = (h.1, tt)
-    switch_labels k (Mv g (M_install n a b)) h = (tt, tt)
-    switch_labels k (Mv g (M_fence_to n to)) h = (tt, tt)
+    switch_labels k (Of_move g (MoveMsg.Forward q to)) h = (h.1, tt)
+    switch_labels k (Of_move g (MoveMsg.Install n a b)) h = (tt, tt)
+    switch_labels k (Of_move g (MoveMsg.Fence_to n to)) h = (tt, tt)
     switch_labels k m h = tt
 
     fence_labels : (m : ShareMsg R) → EachSent (λ _ m. NothingOf S z.unit 0 m) (old_sends (share_sends S A m))
-    fence_labels (S_install n h from) = (tt, tt)
+    fence_labels (ShareMsg.Install n h from) = (tt, tt)
     fence_labels m = tt
 
     pub under_switch : (w : WholeWorld S A) (before since : List ℕ) → GlobalAll S A w

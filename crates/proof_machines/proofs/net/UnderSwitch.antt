@@ -1,12 +1,11 @@
 -- The switch's step is, to a unit under a share, nothing or a move of the share's machine (`switch_goes`).
 use Rattle.proof_machines.proofs.net.Words.{◌≡◌, ℕ, ◌≤◌, Bool, true, false, Option, Some, None, List, [], ◌∷◌, ◌++◌, refl, sym, ap, ◌∙◌, subst, arith}
-use Rattle.proof_machines.proofs.net.Words.{if◌then◌else◌, ◌&&◌, ◌==◌, nat_tests, Decides-eqb, nat_eq_equiv, neither, record_at, M_fenced, M_forward, M_install}
-use Rattle.proof_machines.proofs.net.Words.{M_fence_to, where_true, add, sent_for, off_if, Carry, Fence, Shared, Diverted, Install, Forward, Get, Sync, Fenced}
-use Rattle.proof_machines.proofs.net.Words.{Chunk, Synced, Stray, UnitShare, View, Take_cs, has, joined, only, from_cs, Stage, IsShare, shape, self, Filter}
-use Rattle.proof_machines.proofs.net.Words.{Msg, Carry_on, Pass_on, Fence_on, Mv, Sys, IsSys, sw_target, sw_sends, links_after, NothingOf, mine, share_expect}
-use Rattle.proof_machines.proofs.net.Words.{unit_share, fit, move_seen, old_seen, new_seen, share_seen, share_items, ShareHolds, Any, Old, New, ShareMsg}
-use Rattle.proof_machines.proofs.net.Words.{Shared_on, Diverted_on, S_asked, S_install, S_forward, S_get, S_sync, S_chunks, S_shared, S_synced, same, as_old}
-use Rattle.proof_machines.proofs.net.Words.{Sharing, share_target, share_sends, WholeWorld, whole_switch, SeeingShare, either_way, split, Unit}
+use Rattle.proof_machines.proofs.net.Words.{if◌then◌else◌, ◌&&◌, ◌==◌, nat_tests, Decides-eqb, nat_eq_equiv, neither, record_at, MoveMsg, where_true, add}
+use Rattle.proof_machines.proofs.net.Words.{sent_for, off_if, Carry, Fence, Shared, Diverted, Install, Forward, Get, Sync, Fenced, Chunk, Synced, Stray}
+use Rattle.proof_machines.proofs.net.Words.{UnitShare, View, Take_cs, has, joined, only, from_cs, Stage, IsShare, shape, self, Filter, Msg, Carry_on, Pass_on}
+use Rattle.proof_machines.proofs.net.Words.{Fence_on, Of_move, Sys, IsSys, sw_target, sw_sends, links_after, NothingOf, mine, share_expect, unit_share, fit}
+use Rattle.proof_machines.proofs.net.Words.{move_seen, old_seen, new_seen, share_seen, share_items, ShareHolds, Any, Old, New, ShareMsg, Shared_on, Diverted_on}
+use Rattle.proof_machines.proofs.net.Words.{same, as_old, Sharing, share_target, share_sends, WholeWorld, whole_switch, SeeingShare, either_way, split, Unit}
 use Rattle.proof_machines.proofs.unit.Real
 use Rattle.proof_machines.proofs.share.Share.{Item, Item.Chunks}
 use Rattle.proof_machines.proofs.net.UntakenSwitch.{sw_same}
@@ -52,24 +51,24 @@ module _ {R : Type 0} (S : Sys R) (A : Sharing S) (laws : IsSys S) (z : SeeingSh
   not_else true q it n = n
   not_else false q it n = not_if (mine S A z q) Stray (λ e. e)
 
-  not_move : (m : Real.Msg R) → IsNotFor (move_seen S A z m)
-  not_move (M_fenced n) = not_if (n == z.num) Fenced (λ e. e)
-  not_move (M_install n a b) = not_if (n == z.num) Stray (λ e. e)
-  not_move (M_fence_to n to) = not_if (n == z.num) Stray (λ e. e)
+  not_move : (m : MoveMsg R) → IsNotFor (move_seen S A z m)
+  not_move (MoveMsg.Fenced n) = not_if (n == z.num) Fenced (λ e. e)
+  not_move (MoveMsg.Install n a b) = not_if (n == z.num) Stray (λ e. e)
+  not_move (MoveMsg.Fence_to n to) = not_if (n == z.num) Stray (λ e. e)
   not_move m = tt
 
   not_old : (m : Msg R) → IsNotFor (old_seen S A z m)
   not_old (Carry_on q) = not_if (mine S A z q) (Carry q) (λ e. e)
   not_old (Pass_on q) = not_if (mine S A z q) Stray (λ e. e)
   not_old (Fence_on n) = not_if (n == z.num) Fence (λ e. e)
-  not_old (Mv g m) = not_move m
+  not_old (Of_move g m) = not_move m
   not_old m = tt
 
   -- what the switch sends on a move's message that isn't seen
   sends_unseen : (k : ℕ) (m : Msg R) → NothingOf S z.unit k m → old_seen S A z m ≡ None → Unseen S A z (sw_sends m)
-  sends_unseen k (Mv g (M_forward q to)) l none = (let off = l.1 in rw off refl, tt)
-  sends_unseen k (Mv g (M_install n a b)) l none = (let off = off_if (n == z.num) Stray none in rw off refl, tt)
-  sends_unseen k (Mv g (M_fence_to n to)) l none = (let off = off_if (n == z.num) Stray none in rw off refl, tt)
+  sends_unseen k (Of_move g (MoveMsg.Forward q to)) l none = (let off = l.1 in rw off refl, tt)
+  sends_unseen k (Of_move g (MoveMsg.Install n a b)) l none = (let off = off_if (n == z.num) Stray none in rw off refl, tt)
+  sends_unseen k (Of_move g (MoveMsg.Fence_to n to)) l none = (let off = off_if (n == z.num) Stray none in rw off refl, tt)
   sends_unseen k m l none = tt
 
   -- the fence after an Install, the packet after a Forward
@@ -168,50 +167,52 @@ module _ {R : Type 0} (S : Sys R) (A : Sharing S) (laws : IsSys S) (z : SeeingSh
     installs g from t true e home takes = elim (S.takes g z.unit && (t == from)) as (λ c. (if c then 1 else t) ≡ 1) [ true ↦ refl | false ↦ e ]
     installs g from t false e home takes = let on : (t == from) ≡ true = (Decides-eqb t from).1 (e ∙ sym home) in rw (takes, on) refl
 
-    install_goes : (n : ℕ) (g : Filter) (from : ℕ) (rest : List (Any R)) → w.link p 0 ≡ New (S_install n g from) ∷ rest
-        → ShareLabel S A z 0 (S_install n g from) → Goes S A z (Next_to w p (New (S_install n g from))) x
+    install_goes : (n : ℕ) (g : Filter) (from : ℕ) (rest : List (Any R)) → w.link p 0 ≡ New (ShareMsg.Install n g from) ∷ rest
+        → ShareLabel S A z 0 (ShareMsg.Install n g from) → Goes S A z (Next_to w p (New (ShareMsg.Install n g from))) x
     install_goes n g from rest waits l = either_way (n == z.num)
         (λ on.
         let own = l.0 on in
         let home : (from == z.home) ≡ true = (Decides-eqb from z.home).1 own.1 in
         let takes : S.takes g z.unit ≡ true = ap (λ k. S.takes k z.unit) own.0 ∙ covered in
         let apart : (1 == z.home) ≡ false = one_not z.home is.home_in in
-        moves_on (New (S_install n g from)) rest waits Install (only z.home (Fence ∷ [])) true (rw (on, home) refl) refl (fence_at n from 1 on own.1
+        moves_on (New (ShareMsg.Install n g from)) rest waits Install (only z.home (Fence ∷ [])) true (rw (on, home) refl) refl (fence_at n from 1 on own.1
         ∙ rw apart refl) (λ k. fence_at n from k on own.1) (installs g from (w.target z.unit) x.diverts h.target own.1 takes) (λ v _ _. refl))
         (λ off.
         let other = l.1 off in
         let none : old_seen S A z (Fence_on n) ≡ None = rw off refl in
-        quiet (New (S_install n g from)) rest waits (rw off refl) (λ r. unseen_view S A z ((from, Fence_on n) ∷ []) (none, tt) r)
+        quiet (New (ShareMsg.Install n g from)) rest waits (rw off refl) (λ r. unseen_view S A z ((from, Fence_on n) ∷ []) (none, tt) r)
         (let out = other z.unit covered in rw out refl) (λ v t c. let out = other v t in rw out at c))
 
-    forward_goes : (n q to : ℕ) (home : Bool) (rest : List (Any R)) → w.link p 0 ≡ New (S_forward n home q to) ∷ rest
-        → ShareLabel S A z 0 (S_forward n home q to) → Goes S A z (Next_to w p (New (S_forward n home q to))) x
+    forward_goes : (n q to : ℕ) (home : Bool) (rest : List (Any R)) → w.link p 0 ≡ New (ShareMsg.Forward n home q to) ∷ rest
+        → ShareLabel S A z 0 (ShareMsg.Forward n home q to) → Goes S A z (Next_to w p (New (ShareMsg.Forward n home q to))) x
     forward_goes n q to home rest waits l = either_way (n == z.num)
         (λ on.
         let own = l.0 on in
         let flag = own.0 in
         let apart : (1 == to) ≡ false = one_not to own.1 in
-        moves_on (New (S_forward n home q to)) rest waits (Forward q to) (only to (Shared q ∷ [])) x.diverts (rw (on, flag) refl) refl
+        moves_on (New (ShareMsg.Forward n home q to)) rest waits (Forward q to) (only to (Shared q ∷ [])) x.diverts (rw (on, flag) refl) refl
         (packet_at n q to 1 home on flag ∙ rw apart refl) (λ k. packet_at n q to k home on flag) h.target h.diverts)
         (λ off.
         let other = l.1 off in
-        quiet (New (S_forward n home q to)) rest waits (rw (off, other) refl)
+        quiet (New (ShareMsg.Forward n home q to)) rest waits (rw (off, other) refl)
         (λ r. lone_view S A z to r (New (Shared_on n home q)) ∙ rw (off, other) (neither (to == r))) refl (λ v _ c. c))
 
     new_goes : (m : ShareMsg R) (rest : List (Any R)) → w.link p 0 ≡ New m ∷ rest → ShareLabel S A z 0 m → Goes S A z (Next_to w p (New m)) x
-    new_goes (S_install n g from) rest waits l = install_goes n g from rest waits l
-    new_goes (S_forward n home q to) rest waits l = forward_goes n q to home rest waits l
+    new_goes (ShareMsg.Install n g from) rest waits l = install_goes n g from rest waits l
+    new_goes (ShareMsg.Forward n home q to) rest waits l = forward_goes n q to home rest waits l
     new_goes (Shared_on n home q) rest waits l = idle (Shared_on n home q) rest waits refl (λ v. refl)
         (not_else (n == z.num) q (fit S A z (same home (0 == z.home)) (Shared q)) (not_fit (same home (0 == z.home)) (Shared q) (λ e. e)))
     new_goes (Diverted_on q) rest waits l =
         idle (Diverted_on q) rest waits refl (λ v. refl) (not_else (S.takes z.filter (S.packet_unit q)) q (Diverted q) (λ e. e))
-    new_goes (S_asked a) rest waits l = idle (S_asked a) rest waits refl (λ v. refl) tt
-    new_goes (S_get n g) rest waits l = idle (S_get n g) rest waits refl (λ v. refl) (not_if (n == z.num) Get (λ e. e))
-    new_goes (S_sync n home cs) rest waits l = idle (S_sync n home cs) rest waits refl (λ v. refl) (not_if (n == z.num)
+    new_goes (ShareMsg.Asked a) rest waits l = idle (ShareMsg.Asked a) rest waits refl (λ v. refl) tt
+    new_goes (ShareMsg.Get n g) rest waits l = idle (ShareMsg.Get n g) rest waits refl (λ v. refl) (not_if (n == z.num) Get (λ e. e))
+    new_goes (ShareMsg.Sync n home cs) rest waits l = idle (ShareMsg.Sync n home cs) rest waits refl (λ v. refl) (not_if (n == z.num)
         (fit S A z (same home (0 == z.home)) (Sync (record_at z.unit cs))) (not_fit (same home (0 == z.home)) (Sync (record_at z.unit cs)) (λ e. e)))
-    new_goes (S_chunks n cs) rest waits l = idle (S_chunks n cs) rest waits refl (λ v. refl) (not_if (n == z.num) (Chunks (record_at z.unit cs)) (λ e. e))
-    new_goes (S_shared n c) rest waits l = idle (S_shared n c) rest waits refl (λ v. refl) (not_if (n == z.num) (Chunk (record_at z.unit (c ∷ []))) (λ e. e))
-    new_goes (S_synced n) rest waits l = idle (S_synced n) rest waits refl (λ v. refl) (not_if (n == z.num) Synced (λ e. e))
+    new_goes (ShareMsg.Chunks n cs) rest waits l =
+        idle (ShareMsg.Chunks n cs) rest waits refl (λ v. refl) (not_if (n == z.num) (Chunks (record_at z.unit cs)) (λ e. e))
+    new_goes (ShareMsg.Shared n c) rest waits l =
+        idle (ShareMsg.Shared n c) rest waits refl (λ v. refl) (not_if (n == z.num) (Chunk (record_at z.unit (c ∷ []))) (λ e. e))
+    new_goes (ShareMsg.Synced n) rest waits l = idle (ShareMsg.Synced n) rest waits refl (λ v. refl) (not_if (n == z.num) Synced (λ e. e))
 
     -- what is known of the message
     abbrev pub LabelAt : ℕ → Any R → Type 0

@@ -1,13 +1,13 @@
 -- Each node's step and each begin of a move leaves a unit at rest or in a move, with all its packets that arrived.
 use Rattle.proof_machines.proofs.NumberedLists.{find-append_own, find-append_other, none_below}
-use Rattle.proof_machines.proofs.net.Words.{◌≡◌, ◌≢◌, ℕ, suc, ◌+◌, ◌≤◌, Bool, true, false, Option, Some, None, List, [], ◌∷◌, ◌++◌, refl, sym, ap, ◌∙◌}
-use Rattle.proof_machines.proofs.net.Words.{subst, append-nil, arith, if◌then◌else◌, ◌&&◌, ◌||◌, ◌==◌, nat_tests, Decides-eqb, self, At_a, At_b, Ran, Drops}
-use Rattle.proof_machines.proofs.net.Words.{Item, Enable, State, Freezing, firsts, Turned_loose, Fenced_loose, Ending_loose, Fence_loose, loose, times}
-use Rattle.proof_machines.proofs.net.Words.{IsOrderedAs, M_enable, M_install, Op, sent_for, NodesDiffer, Each, each-append, Nodes, expect, is_over, AtRestNow}
-use Rattle.proof_machines.proofs.net.Words.{Rests_at, seat_ends, seat_at, UnitSeat, Covered, is_covered, seat_shape, seat_all, seat_loose, Filter, inst_next}
-use Rattle.proof_machines.proofs.net.Words.{ctrl_next, sw_next, in_next, begin_next, sw_target, Msg, Mv, MoveAsked, Sys, IsSys, Open, find_op, meets_any}
-use Rattle.proof_machines.proofs.net.Words.{new_op, begin_sends, World, seen, Seeing, frame, Label, OpLabel, place, IsController, Holds, sent, view_put}
-use Rattle.proof_machines.proofs.net.Words.{each_put, Rest, Global, same_unit, Unit, same_of}
+use Rattle.proof_machines.proofs.net.Words.{◌≡◌, ◌≢◌, ℕ, suc, ◌+◌, ◌≤◌, Bool, true, false, Option, Some, None, List, [], ◌∷◌, ◌++◌, refl, sym, ap, ◌∙◌, subst}
+use Rattle.proof_machines.proofs.net.Words.{append-nil, arith, if◌then◌else◌, ◌&&◌, ◌||◌, ◌==◌, nat_tests, Decides-eqb, self, At_a, At_b, Ran, Drops, Item}
+use Rattle.proof_machines.proofs.net.Words.{Enable, State, Freezing, firsts, Turned_loose, Fenced_loose, Ending_loose, Fence_loose, loose, times, IsOrderedAs}
+use Rattle.proof_machines.proofs.net.Words.{MoveMsg, Op, sent_for, NodesDiffer, Each, each-append, Nodes, expect, is_over, AtRestNow, Rests_at, seat_ends}
+use Rattle.proof_machines.proofs.net.Words.{seat_at, UnitSeat, Covered, is_covered, seat_shape, seat_all, seat_loose, Filter, inst_next, ctrl_next, sw_next}
+use Rattle.proof_machines.proofs.net.Words.{in_next, begin_next, sw_target, Msg, Of_move, MoveAsked, Sys, IsSys, Open, find_op, meets_any, new_op, begin_sends}
+use Rattle.proof_machines.proofs.net.Words.{World, seen, Seeing, frame, Label, OpLabel, place, IsController, Holds, sent, view_put, each_put, Rest, Global}
+use Rattle.proof_machines.proofs.net.Words.{same_unit, Unit, same_of}
 use Rattle.proof_machines.proofs.unit.Stages.{Stage, shape}
 use Rattle.proof_machines.proofs.unit.Loose.{times-append}
 use Rattle.proof_machines.proofs.net.InstWorld.{Goes_to, inst_holds}
@@ -175,12 +175,13 @@ module _ {R : Type 0} (S : Sys R) (laws : IsSys S) (u : Unit) where
 
   -- the switch changes the flag where it takes the message by which a move without a buffer hands the unit on
   abbrev pub Hands_on : World S → Msg R → Bool → Type 0
-  Hands_on w m d = (f : Filter) (n from to : ℕ) (e : Open R) → m ≡ Mv f (M_install n from to) → find_op w.ops n ≡ Some e → e.op.keep ≡ false
+  Hands_on w m d = (f : Filter) (n from to : ℕ) (e : Open R) → m ≡ Of_move f (MoveMsg.Install n from to) → find_op w.ops n ≡ Some e → e.op.keep ≡ false
       → S.takes f u ≡ true → w.target u ≡ from → d ≡ true
 
   -- a target that isn't changed is what it was
   install_flag : (w : World S) (d : Bool) (o : Op) (e : Open R) (s : UnitSeat S.F) (f : Filter) (n from to : ℕ) → find_op w.ops o.num ≡ Some e
-      → e.op.keep ≡ o.keep → S.takes f u ≡ (n == o.num) → Hands_on w (Mv f (M_install n from to)) d → Flagged w o s d → is_covered s ≡ true → o.keep ≡ false
+      → e.op.keep ≡ o.keep → S.takes f u ≡ (n == o.num) → Hands_on w (Of_move f (MoveMsg.Install n from to)) d → Flagged w o s d → is_covered s ≡ true → o.keep
+      ≡ false
       → (b k : Bool) → S.takes f u ≡ b → (w.target u == from) ≡ k → (if b && k then to else w.target u) ≡ o.dst → d ≡ true
   install_flag w d o e s f n from to there keep lab hands old on plain true true t at is =
       let same : n ≡ o.num = (Decides-eqb n o.num).0 (sym lab ∙ t) in
@@ -202,7 +203,7 @@ module _ {R : Type 0} (S : Sys R) (laws : IsSys S) (u : Unit) where
       keep = ap (λ x. x.keep) (subst (λ x. IsController S (see op third) x (seat_shape S.F s)) there h.ctrl).0
 
       by_msg : (m : Msg R) → Label S (see op third) p m → Hands_on w m d → sw_target S w.target m u ≡ op.dst → d ≡ true
-      by_msg (Mv x (M_install n from to)) lab hands at =
+      by_msg (Of_move x (MoveMsg.Install n from to)) lab hands at =
           install_flag w d op e s x n from to there keep lab.1 hands before on plain (S.takes x u) (w.target u == from) refl refl at
       by_msg m lab hands at = before on plain at
 
@@ -240,7 +241,7 @@ module _ {R : Type 0} (S : Sys R) (laws : IsSys S) (u : Unit) where
       → NodesDiffer (new_op {R = R} x.num x).op → Holds S (see o third) w v → Holds S (see o third) (begin_next S w x) v
   other_begins o third w x v off out apart h =
       let z = see o third in
-      let p = put_unseen S laws z w v h 1 (begin_sends x.num x) (one_unseen S laws z 1 x.src (Mv x.filter (M_enable x.num Drops)) (rw off refl))
+      let p = put_unseen S laws z w v h 1 (begin_sends x.num x) (one_unseen S laws z 1 x.src (Of_move x.filter (MoveMsg.Enable x.num Drops)) (rw off refl))
       ((refl, (out ∙ sym off, refl)), tt) in
       record {
         apart = h.apart;

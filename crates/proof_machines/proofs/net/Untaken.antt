@@ -2,11 +2,10 @@
 -- elsewhere than to the share's home. With the switch's and the controller's steps, which keep it so.
 use Rattle.proof_machines.proofs.EachLaws.{each_fails, none_passes}
 use Rattle.proof_machines.proofs.unit.Labels.{each_map}
-use Rattle.proof_machines.proofs.net.Words.{◌≡◌, ℕ, true, false, Some, None, List, [], ◌∷◌, ◌++◌, refl, ◌∙◌, ◌&&◌, ◌==◌, Chunks, record_at, Each}
-use Rattle.proof_machines.proofs.net.Words.{Sys, none_mine, AreNumbersApart, found_each, each_set_share, set_find, Any, Old, New, ShareMsg, Shared_on}
-use Rattle.proof_machines.proofs.net.Words.{Diverted_on, S_asked, S_install, S_forward, S_get, S_sync, S_chunks, S_shared, S_synced, EachNew, as_old, Sharing}
-use Rattle.proof_machines.proofs.net.Words.{OpenShare, find_share, set_share, Told, share_row, told_by, SharesStep, by_share, WholeWorld, old_step, whole_ctrl}
-use Rattle.proof_machines.proofs.net.Words.{same_unit, same_unit_equiv, Unit, SharePhase}
+use Rattle.proof_machines.proofs.net.Words.{◌≡◌, ℕ, true, false, Some, None, List, [], ◌∷◌, ◌++◌, refl, ◌∙◌, ◌&&◌, ◌==◌, Chunks, record_at, Each, Sys}
+use Rattle.proof_machines.proofs.net.Words.{none_mine, AreNumbersApart, found_each, each_set_share, set_find, Any, Old, New, ShareMsg, Shared_on, Diverted_on}
+use Rattle.proof_machines.proofs.net.Words.{EachNew, as_old, Sharing, OpenShare, find_share, set_share, Told, share_row, told_by, SharesStep, by_share}
+use Rattle.proof_machines.proofs.net.Words.{WholeWorld, old_step, whole_ctrl, same_unit, same_unit_equiv, Unit, SharePhase}
 use Rattle.proof_machines.proofs.net.NewMessages.{OnNew, EachSentNew, each_new_map, sent_old_and, new_after, new_head}
 use Rattle.proof_machines.proofs.net.ShareRows.{Tells, told_cases, ToldOf, SentBy, share_row_by}
 
@@ -15,10 +14,10 @@ module _ {R : Type 0} (S : Sys R) (u : Unit) where
   abbrev pub NoShare : List OpenShare → ShareMsg R → Type 0
   NoShare es (Shared_on n home p) = same_unit (S.packet_unit p) u ≡ false
   NoShare es (Diverted_on p) = same_unit (S.packet_unit p) u ≡ false
-  NoShare es (S_forward n home p to) = same_unit (S.packet_unit p) u ≡ false
-  NoShare es (S_sync n home cs) = record_at u cs ≡ None
-  NoShare es (S_chunks n cs) = (e : OpenShare) → find_share es n ≡ Some e → record_at u cs ≡ None
-  NoShare es (S_shared n c) = same_unit c.0 u ≡ false
+  NoShare es (ShareMsg.Forward n home p to) = same_unit (S.packet_unit p) u ≡ false
+  NoShare es (ShareMsg.Sync n home cs) = record_at u cs ≡ None
+  NoShare es (ShareMsg.Chunks n cs) = (e : OpenShare) → find_share es n ≡ Some e → record_at u cs ≡ None
+  NoShare es (ShareMsg.Shared n c) = same_unit c.0 u ≡ false
   NoShare es m = Prim.Unit {0}
 
   abbrev pub ElsewhereHome : (Unit → ℕ) → OpenShare → Type 0
@@ -43,11 +42,11 @@ module _ {R : Type 0} (S : Sys R) (u : Unit) where
     -- the same shares are found
     no_share_set : (n : ℕ) (ph : SharePhase) (q : List ℕ) (es : List OpenShare) (m : ShareMsg R) → NoShare es m
         → NoShare (set_share n ph q es) m
-    no_share_set n ph q es (S_chunks k cs) h = λ e is. let f = set_find n ph q es k e is in h f.share f.found
-    no_share_set n ph q es (S_asked x) h = tt
-    no_share_set n ph q es (S_install k g from) h = tt
-    no_share_set n ph q es (S_get k g) h = tt
-    no_share_set n ph q es (S_synced k) h = tt
+    no_share_set n ph q es (ShareMsg.Chunks k cs) h = λ e is. let f = set_find n ph q es k e is in h f.share f.found
+    no_share_set n ph q es (ShareMsg.Asked x) h = tt
+    no_share_set n ph q es (ShareMsg.Install k g from) h = tt
+    no_share_set n ph q es (ShareMsg.Get k g) h = tt
+    no_share_set n ph q es (ShareMsg.Synced k) h = tt
     no_share_set n ph q es m h = h
 
     one_chunk : (c : Unit × R) → same_unit c.0 u ≡ false → record_at u (c ∷ []) ≡ None
@@ -60,17 +59,17 @@ module _ {R : Type 0} (S : Sys R) (u : Unit) where
     not_told : (es : List OpenShare) (m : Any R) (e : OpenShare) (t : Told R) → OnNew (NoShare es) m → Tells S A es m e t
         → ToldOf S A e (λ p. same_unit (S.packet_unit p) u ≡ false) IsNotIn t
     not_told es (Old m) e t h is = rw is tt
-    not_told es (New (S_chunks n cs)) e t h is = let eq = is.1 in rw eq (h e is.0)
-    not_told es (New (S_shared n c)) e t h is = let eq = is.1 in rw eq (one_chunk c h)
-    not_told es (New (S_synced n)) e t h is = rw is tt
+    not_told es (New (ShareMsg.Chunks n cs)) e t h is = let eq = is.1 in rw eq (h e is.0)
+    not_told es (New (ShareMsg.Shared n c)) e t h is = let eq = is.1 in rw eq (one_chunk c h)
+    not_told es (New (ShareMsg.Synced n)) e t h is = rw is tt
     not_told es (New (Diverted_on p)) e t h is = let eq = is.1 in rw eq h
     not_told es m e t h is = absurd is
 
     sent_none : (es : List OpenShare) (e : OpenShare) (j : ℕ) (m : Any R) → SentBy S A e (λ p. same_unit (S.packet_unit p) u ≡ false) IsNotIn j m
         → OnNew (NoShare es) m
-    sent_none es e j (New (S_get n g)) h = tt
-    sent_none es e j (New (S_sync n home cs)) h = h.1
-    sent_none es e j (New (S_forward n home p to)) h = h.1
+    sent_none es e j (New (ShareMsg.Get n g)) h = tt
+    sent_none es e j (New (ShareMsg.Sync n home cs)) h = h.1
+    sent_none es e j (New (ShareMsg.Forward n home p to)) h = h.1
     sent_none es e j (Old m) h = tt
     sent_none es e j m h = absurd h
 

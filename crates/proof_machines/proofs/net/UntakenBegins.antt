@@ -2,8 +2,8 @@
 -- records that stand by.
 use Rattle.proof_machines.proofs.net.Words.{◌≡◌, ℕ, suc, ◌≤◌, Bool, true, false, List, [], ◌∷◌, ◌++◌, refl, sym, ◌∙◌, arith, if◌then◌else◌, ◌==◌, nat_tests}
 use Rattle.proof_machines.proofs.net.Words.{each-append, Filter, Asked, MoveAsked, Sys, IsSys, begin_sends, begin_next, World, sent_for, none_mine, find_old}
-use Rattle.proof_machines.proofs.net.Words.{Numbered, GlobalAll, Any, Old, New, ShareMsg, S_asked, S_install, S_get, S_chunks, S_synced, WantShare, olds}
-use Rattle.proof_machines.proofs.net.Words.{as_old, Sharing, OpenShare, new_share, WholeWorld, moves_of, asks, begin_move, begin_share, puts_get, keeps, Unit}
+use Rattle.proof_machines.proofs.net.Words.{Numbered, GlobalAll, Any, Old, New, ShareMsg, ShareAsked, olds, as_old, Sharing, OpenShare, new_share, WholeWorld}
+use Rattle.proof_machines.proofs.net.Words.{moves_of, asks, begin_move, begin_share, puts_get, keeps, Unit}
 use Rattle.proof_machines.proofs.net.Units.{Where, May, put_where}
 use Rattle.proof_machines.proofs.net.ToldUnits.{begin_where}
 use Rattle.proof_machines.proofs.net.Elsewhere.{elsewhere_where}
@@ -42,25 +42,25 @@ module _ {R : Type 0} (S : Sys R) (A : Sharing S) (laws : IsSys S) (u : Unit) wh
 
   -- no message has the new number
   no_share_more : (es : List OpenShare) (x : OpenShare) (b : ℕ) → b ≤ x.num → (m : ShareMsg R) → Numbered b m → NoShare S u es m → NoShare S u (es ++ x ∷ []) m
-  no_share_more es x b fresh (S_chunks k cs) few h = λ e is.
+  no_share_more es x b fresh (ShareMsg.Chunks k cs) few h = λ e is.
       let off : (x.num == k) ≡ false = grind (arith, nat_tests, few, fresh) in h e (sym (find_old es x k off) ∙ is)
-  no_share_more es x b fresh (S_asked y) few h = tt
-  no_share_more es x b fresh (S_install k g from) few h = tt
-  no_share_more es x b fresh (S_get k g) few h = tt
-  no_share_more es x b fresh (S_synced k) few h = tt
+  no_share_more es x b fresh (ShareMsg.Asked y) few h = tt
+  no_share_more es x b fresh (ShareMsg.Install k g from) few h = tt
+  no_share_more es x b fresh (ShareMsg.Get k g) few h = tt
+  no_share_more es x b fresh (ShareMsg.Synced k) few h = tt
   no_share_more es x b fresh m few h = h
 
   -- a share that doesn't take the unit, or whose home isn't where its packets go
-  pub share_unshared : (w : WholeWorld S A) (ps : List ℕ) (c : Bool) → GlobalAll S A w → (x : WantShare) → w.next ≤ x.num
+  pub share_unshared : (w : WholeWorld S A) (ps : List ℕ) (c : Bool) → GlobalAll S A w → (x : ShareAsked) → w.next ≤ x.num
       → (S.takes x.filter u ≡ true → (x.home == w.target u) ≡ false) → Unshared S A laws u w ps c → Unshared S A laws u (begin_share S A w x) ps c
   share_unshared w ps c g x fresh away h = record {
-    is = put_new w ps c 1 (suc x.num) (w.shares ++ new_share x ∷ []) ((0, New (S_install x.num x.filter x.home)) ∷ []) refl h.is;
+    is = put_new w ps c 1 (suc x.num) (w.shares ++ new_share x ∷ []) ((0, New (ShareMsg.Install x.num x.filter x.home)) ∷ []) refl h.is;
     untaken = record {
       homes = each-append (ElsewhereHome S u w.target) w.shares (new_share x ∷ []) h.untaken.homes (away, tt);
       queues = each-append (λ e. none_mine S u e.queue ≡ []) w.shares (new_share x ∷ []) h.untaken.queues (refl, tt);
       links = new_put (λ _ m. NoShare S u (w.shares ++ new_share x ∷ []) m) w.link (λ i j e. each_new_both (Numbered w.next) (NoShare S u w.shares)
           (NoShare S u (w.shares ++ new_share x ∷ [])) (no_share_more w.shares (new_share x) w.next fresh) (w.link i j) (g.numbers i j e)
-          (h.untaken.links i j e)) 1 ((0, New (S_install x.num x.filter x.home)) ∷ []) (tt, tt);
+          (h.untaken.links i j e)) 1 ((0, New (ShareMsg.Install x.num x.filter x.home)) ∷ []) (tt, tt);
     };
   }
 
@@ -68,11 +68,11 @@ module _ {R : Type 0} (S : Sys R) (A : Sharing S) (laws : IsSys S) (u : Unit) wh
   pub get_unshared : (w : WholeWorld S A) (ps : List ℕ) (c : Bool) (n : ℕ) (g : Filter) (src : ℕ) → Unshared S A laws u w ps c
       → Unshared S A laws u (puts_get S A w n g src) ps c
   get_unshared w ps c n g src h = record {
-    is = put_new w ps c 1 (suc n) w.shares ((src, New (S_get n g)) ∷ []) refl h.is;
+    is = put_new w ps c 1 (suc n) w.shares ((src, New (ShareMsg.Get n g)) ∷ []) refl h.is;
     untaken = record {
       homes = h.untaken.homes;
       queues = h.untaken.queues;
-      links = new_put (λ _ m. NoShare S u w.shares m) w.link h.untaken.links 1 ((src, New (S_get n g)) ∷ []) (tt, tt);
+      links = new_put (λ _ m. NoShare S u w.shares m) w.link h.untaken.links 1 ((src, New (ShareMsg.Get n g)) ∷ []) (tt, tt);
     };
   }
 
@@ -102,13 +102,13 @@ module _ {R : Type 0} (S : Sys R) (A : Sharing S) (laws : IsSys S) (u : Unit) wh
       asked : World S
       asked = record (moves_of S A w) { link = λ i j. olds (w.link i j) ++ (if i == 0 then sent_for j ((1, Asked x) ∷ []) else []) }
 
-  pub asks_share_unshared : (w : WholeWorld S A) (ps : List ℕ) (c : Bool) (x : WantShare) → Unshared S A laws u w ps c
-      → Unshared S A laws u (asks S A w (New (S_asked x))) ps c
+  pub asks_share_unshared : (w : WholeWorld S A) (ps : List ℕ) (c : Bool) (x : ShareAsked) → Unshared S A laws u w ps c
+      → Unshared S A laws u (asks S A w (New (ShareMsg.Asked x))) ps c
   asks_share_unshared w ps c x h = record {
-    is = put_new w ps c 0 w.next w.shares ((1, New (S_asked x)) ∷ []) refl h.is;
+    is = put_new w ps c 0 w.next w.shares ((1, New (ShareMsg.Asked x)) ∷ []) refl h.is;
     untaken = record {
       homes = h.untaken.homes;
       queues = h.untaken.queues;
-      links = new_put (λ _ m. NoShare S u w.shares m) w.link h.untaken.links 0 ((1, New (S_asked x)) ∷ []) (tt, tt);
+      links = new_put (λ _ m. NoShare S u w.shares m) w.link h.untaken.links 0 ((1, New (ShareMsg.Asked x)) ∷ []) (tt, tt);
     };
   }

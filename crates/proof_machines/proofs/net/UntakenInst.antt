@@ -1,9 +1,9 @@
 -- A unit that no share has, and the steps of instances and of the controller: it stays where it is, and no share has it.
 use Rattle.proof_machines.proofs.net.Words.{◌≡◌, ℕ, Bool, true, false, Some, None, List, [], ◌∷◌, ◌++◌, refl, sym, ap, ◌∙◌, append-nil, if◌then◌else◌, ◌&&◌}
 use Rattle.proof_machines.proofs.net.Words.{◌==◌, option_to_list, option_map_or, Decides-eqb, Each, each_map, first, record_first, over, Sys, IsSys, process}
-use Rattle.proof_machines.proofs.net.Words.{inst_step, at_node, done_u, found_each, Disjoint, OfShare, GlobalAll, Any, Old, New, ShareMsg, Shared_on, S_get}
-use Rattle.proof_machines.proofs.net.Words.{S_sync, S_shared, olds, as_old, Sharing, IsSharing, OpenShare, find_share, shared_chunk, member_step, WholeWorld}
-use Rattle.proof_machines.proofs.net.Words.{moves_of, whole_inst, whole_ctrl, same_unit, split, Unit}
+use Rattle.proof_machines.proofs.net.Words.{inst_step, at_node, done_u, found_each, Disjoint, OfShare, GlobalAll, Any, Old, New, ShareMsg, Shared_on, olds}
+use Rattle.proof_machines.proofs.net.Words.{as_old, Sharing, IsSharing, OpenShare, find_share, shared_chunk, member_step, WholeWorld, moves_of, whole_inst}
+use Rattle.proof_machines.proofs.net.Words.{whole_ctrl, same_unit, split, Unit}
 use Rattle.proof_machines.proofs.net.Net.{put}
 use Rattle.proof_machines.proofs.net.Units.{Where, inst_where, ctrl_where}
 use Rattle.proof_machines.proofs.net.Elsewhere.{elsewhere_where, where_rests}
@@ -36,12 +36,12 @@ module _ {R : Type 0} (S : Sys R) (A : Sharing S) (laws : IsSys S) (u : Unit) wh
 
   -- the home gives nothing of the unit
   abbrev GetsNone : WholeWorld S A → ℕ → ShareMsg R → Type 0
-  GetsNone w y (S_get n g) = (e : OpenShare) → find_share w.shares n ≡ Some e → (if S.takes g u then S.B.at u (w.inst y).live else None) ≡ None
+  GetsNone w y (ShareMsg.Get n g) = (e : OpenShare) → find_share w.shares n ≡ Some e → (if S.takes g u then S.B.at u (w.inst y).live else None) ≡ None
   GetsNone w y m = Prim.Unit {0}
 
   gets_none : (w : WholeWorld S A) (ps : List ℕ) (c : Bool) (y : ℕ) → GlobalAll S A w → Unshared w ps c → (m : ShareMsg R) → OfShare S w.shares y m
       → GetsNone w y m
-  gets_none w ps c y g h (S_get n f) of = λ e there. split (S.takes f u) (λ b. (if b then S.B.at u (w.inst y).live else None) ≡ None)
+  gets_none w ps c y g h (ShareMsg.Get n f) of = λ e there. split (S.takes f u) (λ b. (if b then S.B.at u (w.inst y).live else None) ≡ None)
       (λ on.
       let k = of e there in
       let takes : S.takes e.filter u ≡ true = ap (λ x. S.takes x u) (sym k.0) ∙ on in
@@ -67,7 +67,7 @@ module _ {R : Type 0} (S : Sys R) (A : Sharing S) (laws : IsSys S) (u : Unit) wh
   chunk_none : (es : List OpenShare) (n p : ℕ) (t : S.B.T) → same_unit (S.packet_unit p) u ≡ false
       → EachSentNew (λ _ m. NoShare S u es m) (shared_chunk S A n p t)
   chunk_none es n p t off = elim (S.B.at (S.packet_unit p) t) as (λ o. EachSentNew (λ _ m. NoShare S u es m)
-      (option_map_or (λ r. (1, New (S_shared n (S.packet_unit p, r))) ∷ []) o [])) [ None ↦ tt | Some r ↦ (off, tt) ]
+      (option_map_or (λ r. (1, New (ShareMsg.Shared n (S.packet_unit p, r))) ∷ []) o [])) [ None ↦ tt | Some r ↦ (off, tt) ]
 
   nothing_ran : (ds : List (ℕ × ℕ)) → done_u S u (ds ++ []) ≡ done_u S u ds
   nothing_ran ds = ap (done_u S u) (append-nil ds)
@@ -80,7 +80,7 @@ module _ {R : Type 0} (S : Sys R) (A : Sharing S) (laws : IsSys S) (u : Unit) wh
   }
   member_leaves ok w y (Shared_on n false p) off gets =
       record { live = refl; ran = λ ds. done_other S u ds p y off; sends = chunk_none w.shares n p (process S (w.standby y) p) off }
-  member_leaves ok w y (S_get n f) off gets = record {
+  member_leaves ok w y (ShareMsg.Get n f) off gets = record {
     live = refl;
     ran = nothing_ran;
     sends = (
@@ -89,9 +89,9 @@ module _ {R : Type 0} (S : Sys R) (A : Sharing S) (laws : IsSys S) (u : Unit) wh
       tt,
     );
   }
-  member_leaves ok w y (S_sync n true cs) off gets =
+  member_leaves ok w y (ShareMsg.Sync n true cs) off gets =
       record { live = ok.replaced u cs (w.inst y).live ∙ ap (λ o. over o (S.B.at u (w.inst y).live)) off; ran = nothing_ran; sends = (tt, tt) }
-  member_leaves ok w y (S_sync n false cs) off gets = record { live = refl; ran = nothing_ran; sends = (tt, tt) }
+  member_leaves ok w y (ShareMsg.Sync n false cs) off gets = record { live = refl; ran = nothing_ran; sends = (tt, tt) }
   member_leaves ok w y m off gets = record { live = refl; ran = nothing_ran; sends = tt }
 
   -- The steps

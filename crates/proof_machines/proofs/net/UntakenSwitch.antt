@@ -1,10 +1,10 @@
 -- A unit that no share has, and the switch's steps: it stays where it is, and no share has it. The switch's packets from the input, too.
 use Rattle.proof_machines.proofs.net.Words.{◌≡◌, ℕ, Bool, true, false, Some, None, List, [], ◌∷◌, ◌++◌, ◌⊎◌, inl, inr, refl, sym, ap, ◌∙◌, subst, append-nil}
-use Rattle.proof_machines.proofs.net.Words.{arith, if◌then◌else◌, ◌&&◌, ◌==◌, nat_tests, Decides-eqb, M_install, sent_for, Each, each_map, Msg, Carry_on}
-use Rattle.proof_machines.proofs.net.Words.{Fence_on, Mv, Sys, IsSys, Open, find_op, sw_target, sw_sends, sw_next, in_next, World, NothingOf, found_each}
-use Rattle.proof_machines.proofs.net.Words.{Disjoint, OfShare, GlobalAll, Any, Old, New, ShareMsg, Shared_on, S_install, S_forward, olds, as_old, Sharing}
-use Rattle.proof_machines.proofs.net.Words.{OpenShare, find_share, share_target, share_sends, arrive_sends, WholeWorld, moves_of, whole_switch, whole_input}
-use Rattle.proof_machines.proofs.net.Words.{same_unit, same_unit-true, split, false_from_ne_true, Unit}
+use Rattle.proof_machines.proofs.net.Words.{arith, if◌then◌else◌, ◌&&◌, ◌==◌, nat_tests, Decides-eqb, MoveMsg, sent_for, Each, each_map, Msg, Carry_on}
+use Rattle.proof_machines.proofs.net.Words.{Fence_on, Of_move, Sys, IsSys, Open, find_op, sw_target, sw_sends, sw_next, in_next, World, NothingOf, found_each}
+use Rattle.proof_machines.proofs.net.Words.{Disjoint, OfShare, GlobalAll, Any, Old, New, ShareMsg, Shared_on, olds, as_old, Sharing, OpenShare, find_share}
+use Rattle.proof_machines.proofs.net.Words.{share_target, share_sends, arrive_sends, WholeWorld, moves_of, whole_switch, whole_input, same_unit, same_unit-true}
+use Rattle.proof_machines.proofs.net.Words.{split, false_from_ne_true, Unit}
 use Rattle.proof_machines.proofs.net.Units.{Where, Where.At_rest, Where.In_move, Hands_on, switch_where, input_where}
 use Rattle.proof_machines.proofs.net.Elsewhere.{elsewhere_where, fence_where, where_two, where_rests}
 use Rattle.proof_machines.proofs.net.AsMoves.{old_sends, olds-put, no_olds-put, news-after, no_olds-after, switch_old}
@@ -20,7 +20,7 @@ module _ {R : Type 0} (S : Sys R) (A : Sharing S) (laws : IsSys S) (u : Unit) wh
 
   -- A message of a move
   pub sw_same : (t : Unit → ℕ) (p : ℕ) (m : Msg R) → NothingOf S u p m → sw_target S t m u ≡ t u
-  sw_same t p (Mv g (M_install n from to)) h = let off = h.1 in rw off refl
+  sw_same t p (Of_move g (MoveMsg.Install n from to)) h = let off = h.1 in rw off refl
   sw_same t p m h = refl
 
   -- a unit that a share takes is at rest, so no move changes its target
@@ -38,7 +38,7 @@ module _ {R : Type 0} (S : Sys R) (A : Sharing S) (laws : IsSys S) (u : Unit) wh
 
   -- A message of a share
   share_same : (w : WholeWorld S A) → Untaken S u A w → (m : ShareMsg R) → OfShare S w.shares 0 m → share_target S A w.target m u ≡ w.target u
-  share_same w h (S_install n g from) of = split (S.takes g u) (λ b. (if b && (w.target u == from) then 1 else w.target u) ≡ w.target u)
+  share_same w h (ShareMsg.Install n g from) of = split (S.takes g u) (λ b. (if b && (w.target u == from) then 1 else w.target u) ≡ w.target u)
       (λ on.
       let takes : S.takes of.share.filter u ≡ true = ap (λ x. S.takes x u) (sym of.says.0) ∙ on in
       let away : (of.share.home == w.target u) ≡ false = found_each (ElsewhereHome S u w.target) w.shares n of.share h.homes of.found takes in
@@ -50,8 +50,8 @@ module _ {R : Type 0} (S : Sys R) (A : Sharing S) (laws : IsSys S) (u : Unit) wh
   share_same w h m of = refl
 
   sends_none : (es : List OpenShare) (m : ShareMsg R) → NoShare S u es m → EachSentNew (λ _ m. NoShare S u es m) (share_sends S A m)
-  sends_none es (S_install n g from) h = (tt, tt)
-  sends_none es (S_forward n home p to) h = (h, tt)
+  sends_none es (ShareMsg.Install n g from) h = (tt, tt)
+  sends_none es (ShareMsg.Forward n home p to) h = (h, tt)
   sends_none es m h = tt
 
   not_move : (w : WholeWorld S A) → GlobalAll S A w → (n : ℕ) (e : OpenShare) → find_share w.shares n ≡ Some e → find_op w.ops n ≡ None
@@ -77,13 +77,13 @@ module _ {R : Type 0} (S : Sys R) (A : Sharing S) (laws : IsSys S) (u : Unit) wh
   switch_new : (w : WholeWorld S A) (ps : List ℕ) (c : Bool) → GlobalAll S A w → Untaken S u A w → (p : ℕ) (m : ShareMsg R) (rest : List (Any R))
       → w.link p 0 ≡ New m ∷ rest → OfShare S w.shares 0 m → Where S laws u (moves_of S A w) ps c
       → Where S laws u (moves_of S A (whole_switch S A w p (New m))) ps c
-  switch_new w ps c g h p (S_install n f from) rest waits of is =
-      elsewhere_where S laws u fences (moves_of S A (whole_switch S A w p (New (S_install n f from)))) ps c (record {
-        target = share_same w h (S_install n f from) of;
+  switch_new w ps c g h p (ShareMsg.Install n f from) rest waits of is =
+      elsewhere_where S laws u fences (moves_of S A (whole_switch S A w p (New (ShareMsg.Install n f from)))) ps c (record {
+        target = share_same w h (ShareMsg.Install n f from) of;
         ops = refl;
         live = λ k. refl;
         rules = λ k. refl;
-        link = λ i j _. news-after w.link p 0 rest ((from, Old (Fence_on n)) ∷ []) ((from, Fence_on n) ∷ []) refl (S_install n f from) waits i j;
+        link = λ i j _. news-after w.link p 0 rest ((from, Old (Fence_on n)) ∷ []) ((from, Fence_on n) ∷ []) refl (ShareMsg.Install n f from) waits i j;
         done = refl;
       }) (fence_where S laws u (moves_of S A w) ps c n from (not_move w g n of.share of.found) is)
     where

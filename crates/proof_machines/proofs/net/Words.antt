@@ -21,34 +21,35 @@ pub use Rattle.proof_machines.proofs.net.Holding.{Seeing, frame, node_at, place,
 pub use Rattle.proof_machines.proofs.net.Holding.{sides_of, SeesNode, done_of}
 pub use Rattle.proof_machines.proofs.net.Links.{head, each_put, each_after, sent, view_some, view_none, done_of-append, done_at, view_put}
 pub use Rattle.proof_machines.proofs.net.Net.{Msg, MoveAsked, Sys, process, inst_step, ctrl_step, sw_sends, begin_sends, behind, links_after, inst_next}
-pub use Rattle.proof_machines.proofs.net.Net.{ctrl_next, sw_next, begin_next, IsSys, Open, find_op, World, seen, Msg.Mv, set_op, write_op, num_of, Msg.Carry_on}
-pub use Rattle.proof_machines.proofs.net.Net.{Msg.Pass_on, Msg.Fence_on, row_of, row, filter_for, wrap, ControllerMove, found, numbered, Msg.In_packet}
-pub use Rattle.proof_machines.proofs.net.Net.{Msg.Asked, find_rule, rule_of, held_of, in_next, Ruling, first_rule, set_rule, hold, holding, drop_rule, to_ctrl}
-pub use Rattle.proof_machines.proofs.net.Net.{NumberedInstance, by_kind, by_rule, new_op, InstanceTurn, meets_any, everything, says, with_table, on_move}
-pub use Rattle.proof_machines.proofs.net.Net.{is_free, at_node, process_all, runs_it, fenced, change_rules, has_rule, ruled_by, new_rule, sw_target}
+pub use Rattle.proof_machines.proofs.net.Net.{ctrl_next, sw_next, begin_next, IsSys, Open, find_op, World, seen, Msg.Of_move, set_op, write_op, num_of}
+pub use Rattle.proof_machines.proofs.net.Net.{Msg.Carry_on, Msg.Pass_on, Msg.Fence_on, row_of, row, filter_for, wrap, ControllerMove, found, numbered}
+pub use Rattle.proof_machines.proofs.net.Net.{Msg.In_packet, Msg.Asked, find_rule, rule_of, held_of, in_next, Ruling, first_rule, set_rule, hold, holding}
+pub use Rattle.proof_machines.proofs.net.Net.{drop_rule, to_ctrl, NumberedInstance, by_kind, by_rule, new_op, InstanceTurn, meets_any, everything, says}
+pub use Rattle.proof_machines.proofs.net.Net.{with_table, on_move, is_free, at_node, process_all, runs_it, fenced, change_rules, has_rule, ruled_by, new_rule}
+pub use Rattle.proof_machines.proofs.net.Net.{sw_target}
 pub use Rattle.proof_machines.proofs.net.Rest.{Rest, carries_of, done_u, NothingOf, Global, RestRule, RestOp, Below, IsBelow, none_mine, below_off, HasNothing}
 pub use Rattle.proof_machines.proofs.net.ShareLists.{find_old, find_new, SameShare, AreNumbersApart, find_set, set_find, find_more, found_each, found_num}
 pub use Rattle.proof_machines.proofs.net.ShareLists.{each_set_share, found_own}
 pub use Rattle.proof_machines.proofs.net.ShareViews.{mine, unit_share, move_seen, old_seen, share_items, own_of, fit, new_seen, share_seen, as_share}
 pub use Rattle.proof_machines.proofs.net.ShareViews.{share_expect, ShareHolds, own_at}
-pub use Rattle.proof_machines.proofs.net.Shares.{Any, Any.Old, Any.New, ShareMsg, ShareMsg.Shared_on, ShareMsg.S_forward, ShareMsg.S_sync, ShareTurn}
-pub use Rattle.proof_machines.proofs.net.Shares.{ShareMsg.S_shared, olds, as_old, Sharing, OpenShare, Told, Told.Is_fenced, Told.Has_chunks, Told.Has_chunk}
+pub use Rattle.proof_machines.proofs.net.Shares.{Any, Any.Old, Any.New, ShareMsg, ShareMsg.Shared_on, ShareTurn}
+pub use Rattle.proof_machines.proofs.net.Shares.{olds, as_old, Sharing, OpenShare, Told, Told.Is_fenced, Told.Has_chunks, Told.Has_chunk}
 pub use Rattle.proof_machines.proofs.net.Shares.{Told.Is_synced, Told.Has_packet, syncs, s_row, s_serves, share_words, told_by, by_share, shared_chunk}
-pub use Rattle.proof_machines.proofs.net.Shares.{member_step, WholeWorld, moves_of, whole_inst, whole_ctrl, whole_switch, begin_move, ShareMsg.S_asked}
-pub use Rattle.proof_machines.proofs.net.Shares.{ShareMsg.S_install, ShareMsg.S_get, ShareMsg.S_chunks, WantShare, new_share, find_share, asks, begin_share}
-pub use Rattle.proof_machines.proofs.net.Shares.{puts_get, keeps, meets_shares, MayShare, ShareMsg.Diverted_on, ShareMsg.S_synced, same, IsSharing, set_share}
+pub use Rattle.proof_machines.proofs.net.Shares.{member_step, WholeWorld, moves_of, whole_inst, whole_ctrl, whole_switch, begin_move}
+pub use Rattle.proof_machines.proofs.net.Shares.{ShareAsked, new_share, find_share, asks, begin_share}
+pub use Rattle.proof_machines.proofs.net.Shares.{puts_get, keeps, meets_shares, MayShare, ShareMsg.Diverted_on, same, IsSharing, set_share}
 pub use Rattle.proof_machines.proofs.net.Shares.{share_taking, share_row, SharesStep, share_sends, arrive_sends, old_step, whole_input, SeeingShare, MemberTurn}
 pub use Rattle.proof_machines.proofs.net.Shares.{ran_of, EachNew, s_goes, share_target}
 pub use Rattle.proof_machines.proofs.share.Heads.{to_members, ToMembers, Meets, meets_sw, meets_to}
 pub use Rattle.proof_machines.proofs.share.Lists.{self, has-without, apart_of, cond-same, runs-append}
 pub use Rattle.proof_machines.proofs.share.Places.{Grows, placed}
 pub use Rattle.proof_machines.proofs.share.Records.{own_is, done_is, is_live, seen_front}
-pub use Rattle.proof_machines.proofs.share.Share.{Item.Carry, serves, said_to}
-pub use Rattle.proof_machines.proofs.share.Share.{Item.Install, Item.Stray, Item.Fence, Item.Forward, has, joined, ShareMachineStep.Take_sc, runs, Item.Fenced}
-pub use Rattle.proof_machines.proofs.share.Share.{member_does, Item.Shared, Item.Diverted, Item.Get, Item.Sync, Item.Chunk, Item.Synced, UnitShare, stepped}
-pub use Rattle.proof_machines.proofs.share.Share.{chunk_of, if_mine, over, only, without_number, nowhere, waits, sync_to, share_does, View}
-pub use Rattle.proof_machines.proofs.share.Share.{ShareMachineStep, put, ShareMachineStep.Arrive, ShareMachineStep.Take_cs, ShareMachineStep.Take_back, from_sc}
-pub use Rattle.proof_machines.proofs.share.Share.{from_back, ShareMachineStep.Take_sw, ShareMachineStep.Take_to, from_sw, from_to, from_cs}
+pub use Rattle.proof_machines.proofs.share.Share.{Item.Carry, serves, said_to, Item.Install, Item.Stray, Item.Fence, Item.Forward, has, joined}
+pub use Rattle.proof_machines.proofs.share.Share.{ShareMachineStep.Take_sc, runs, Item.Fenced, member_does, Item.Shared, Item.Diverted, Item.Get, Item.Sync}
+pub use Rattle.proof_machines.proofs.share.Share.{Item.Chunk, Item.Synced, UnitShare, stepped, chunk_of, if_mine, over, only, without_number, nowhere, waits}
+pub use Rattle.proof_machines.proofs.share.Share.{sync_to, share_does, View, ShareMachineStep, put, ShareMachineStep.Arrive, ShareMachineStep.Take_cs}
+pub use Rattle.proof_machines.proofs.share.Share.{ShareMachineStep.Take_back, from_sc, from_back, ShareMachineStep.Take_sw, ShareMachineStep.Take_to, from_sw}
+pub use Rattle.proof_machines.proofs.share.Share.{from_to, from_cs}
 pub use Rattle.proof_machines.proofs.share.Stages.{shape, Stage, Turn, Turn.Coming, comes_from, served, Stage.Diverting, Stage.Fence_goes, Stage.Fenced_comes}
 pub use Rattle.proof_machines.proofs.share.Stages.{Stage.Get_goes, Stage.Chunks_come, Stage.Spreads, Stage.Resting, Stage.Forwards, Stage.Carries}
 pub use Rattle.proof_machines.proofs.share.Stages.{Stage.Chunk_comes, distinct, IsShare, path, brings, Alike, front, processed, early, late, IsFront, FitsStage}
@@ -72,18 +73,17 @@ pub use Rattle.std.proofs.lemmas.List.Elements.{filter-append, filter_map-append
 pub use Rattle.proof_machines.proofs.unit.Pairs.{Nodes, expect, ShownBy, By_sa, By_sb, By_sc, By_ca, By_cb, By_ac, By_bc, By_cc, By_cs, shown_by, after_take}
 pub use Rattle.proof_machines.proofs.unit.Pairs.{a_from_s, a_from_c, b_from_s, b_from_c, c_from_s, nothing_seen, ctrl_from_a, ctrl_from_b, switch_from_c}
 pub use Rattle.proof_machines.proofs.unit.Pairs.{arrives_at}
-pub use Rattle.proof_machines.proofs.unit.Real.{Chunks, sent_for, Op, record_at, RPiece, RPhase, M_event, M_put_no, Frame, see, see_phase, M_enable, M_stream}
-pub use Rattle.proof_machines.proofs.unit.Real.{M_delete, M_put, M_restore, M_forward, M_install, M_fence_to, r_goes, r_from_source, r_from_destination}
-pub use Rattle.proof_machines.proofs.unit.Real.{where_true, sends_to, only_mine, Sees, M_enabled, M_piece, M_fenced}
-pub use Rattle.proof_machines.proofs.unit.Real.{OperationTurn, none_if, add, view, off_if, r_words, put_to, forward_to, sends_of}
+pub use Rattle.proof_machines.proofs.unit.Real.{Chunks, sent_for, Op, record_at, MovePiece, MovePhase, MoveMsg, Frame, see, see_phase, operation_turn}
+pub use Rattle.proof_machines.proofs.unit.Real.{operation_from_source, operation_from_destination, where_true, sends_to, only_mine, Sees, OperationTurn}
+pub use Rattle.proof_machines.proofs.unit.Real.{none_if, add, view, off_if, operation_words, put_to, forward_to, sends_of}
 pub use Rattle.proof_machines.proofs.unit.Rests.{Silent, is_over, exactly}
 pub use Rattle.proof_machines.proofs.unit.Seats.{UnitSeat, seat_shape, seat_all, seat_rests, is_covered, seat_loose, seat_goes_on, covered_stays, seat_allowed}
 pub use Rattle.proof_machines.proofs.unit.Seats.{base_of, Covered, Is_beside, Is_away, seat_path}
 pub use Rattle.proof_machines.proofs.unit.Seen.{NodesDiffer, frame_of, quiet, did_a, did_b, from_source_seen, from_destination_seen, sent_for-append}
-pub use Rattle.proof_machines.proofs.unit.SeenInst.{r_put, SeesInstance, r_stream, r_delete, r_restore, parts_of, stream_seen, delete_seen, restore_seen}
-pub use Rattle.proof_machines.proofs.unit.SeenInst.{put_seen}
+pub use Rattle.proof_machines.proofs.unit.SeenInst.{put_row, SeesInstance, stream_row, delete_row, restore_row, parts_of, stream_seen, delete_seen}
+pub use Rattle.proof_machines.proofs.unit.SeenInst.{restore_seen, put_seen}
 pub use Rattle.proof_machines.proofs.unit.Stages.{IsOrderedAs, Allowed, arrived_by, Streams, Laying, Turned, Fenced_a, Ending_b, Turned_loose, Fenced_loose}
-pub use Rattle.proof_machines.proofs.unit.Stages.{Ending_loose, Returned, Doorway, Is_wide, puts_of, to_a, times, Same, Fence_b, Fence_loose, Fenced_b}
-pub use Rattle.proof_machines.proofs.unit.Stages.{Moved, loose, At_rest}
+pub use Rattle.proof_machines.proofs.unit.Stages.{Ending_loose, Returned, Doorway, Is_wide, puts_of, to_a, times, Same, Fence_b, Fence_loose, Fenced_b, Moved}
+pub use Rattle.proof_machines.proofs.unit.Stages.{loose, At_rest}
 pub use Rattle.proof_machines.proofs.unit.UnitPieces.{records, first, ArePiecesOf, first_of_one, nil_left}
 pub use Rattle.nf_function.specs.declared.unit.Unit.{Unit}

@@ -6,9 +6,9 @@ use Rattle.copy_share.specs.declared.share_phase.SharePhase.{SharePhase}
 use Rattle.copy_share.specs.declared.share_phase.SharePhase.TheVariants.{Idle, Setting}
 use Rattle.copy_share.specs.ShareTable as said
 use Rattle.std.specs.Prelude.{if◌then◌else◌}
-use Rattle.proof_machines.proofs.share.Share.{Ran, Item, Item.Get, Item.Sync, Item.Fenced, Item.Chunks, UnitShare, View, put, put_ctrl}
-use Rattle.proof_machines.proofs.share.Share.{ControllerTurn, words, serves, ShareMachineStep, ShareMachineStep.Arrive, ShareMachineStep.Take_sc}
-use Rattle.proof_machines.proofs.share.Share.{ShareMachineStep.Take_to, ShareMachineStep.Take_back, has, without_number, after, over, moved, from_to, from_back}
+use Rattle.proof_machines.proofs.share.Share.{Ran, Item, Item.Get, Item.Sync, Item.Fenced, Item.Chunks, UnitShare, View, put, put_ctrl, ControllerTurn, words}
+use Rattle.proof_machines.proofs.share.Share.{serves, ShareMachineStep, ShareMachineStep.Arrive, ShareMachineStep.Take_sc, ShareMachineStep.Take_to}
+use Rattle.proof_machines.proofs.share.Share.{ShareMachineStep.Take_back, has, without_number, after, over, moved, from_to, from_back}
 use Rattle.proof_machines.proofs.share.Stages.{Turn.Going, Turn.Quiet, is_going, goes_to, comes_from, Stage, Stage.Fenced_comes, Stage.Get_goes}
 use Rattle.proof_machines.proofs.share.Stages.{Stage.Chunks_come, Stage.Spreads, shape, IsFront, IsShare, FitsSpread, Behind, brings, Leads}
 use Rattle.proof_machines.proofs.share.Lists.{self, over_front, has-without, distinct-without, length-without, counts_turns, turns_sent, turn_of, in_without}

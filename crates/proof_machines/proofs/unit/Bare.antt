@@ -1,8 +1,8 @@
 -- A stage without any packet of the unit has no record of it and holds nothing; a step in which no packet comes leaves it so.
 use Rattle.proof_machines.proofs.unit.Words.{◌≡◌, ℕ, ◌+◌, Bool, true, false, Option, Some, None, List, [], ◌∷◌, ◌++◌, map, refl, ap, ◌∙◌, arith, if◌then◌else◌}
-use Rattle.proof_machines.proofs.unit.Words.{◌==◌, option_to_list, Steps, after, Rule, Free, Drops, Buffers, Item, Carry, Pass, Fence, Enable, Put}
-use Rattle.proof_machines.proofs.unit.Words.{next, State, MachineStep, firsts, marked, nil_left, nil_right, Stage, At_rest, Streams, Is_wide, shape, path}
-use Rattle.proof_machines.proofs.unit.Words.{all_of, loose, times, Same, IsOrderedAs, Allowed, arrived_by}
+use Rattle.proof_machines.proofs.unit.Words.{◌==◌, option_to_list, Steps, after, Rule, Free, Drops, Buffers, Item, Carry, Pass, Fence, Enable, Put, next, State}
+use Rattle.proof_machines.proofs.unit.Words.{MachineStep, firsts, marked, nil_left, nil_right, Stage, At_rest, Streams, Is_wide, shape, path, all_of, loose}
+use Rattle.proof_machines.proofs.unit.Words.{times, Same, IsOrderedAs, Allowed, arrived_by}
 use Rattle.std.specs.List.{list_all}
 use Rattle.std.proofs.lemmas.Bool.Decides.{Decides-eqb}
 use Rattle.std.proofs.lemmas.List.Folds.{list_all-append}

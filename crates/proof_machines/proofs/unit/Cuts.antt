@@ -5,7 +5,7 @@ use Rattle.proof_machines.proofs.unit.Words.{ArePiecesOf, records, closes, first
 use Rattle.std.specs.List.{cons_option, filter_map, flat_map}
 use Rattle.std.proofs.lemmas.List.Elements.{filter_map-append}
 use Rattle.proof_machines.proofs.unit.UnitPieces.{cons_option_is}
-use Rattle.proof_machines.proofs.unit.Real.{Chunks, record_at, RPiece, Msg, M_piece, Frame, where_true, see, view}
+use Rattle.proof_machines.proofs.unit.Real.{Chunks, record_at, MovePiece, MoveMsg, Frame, where_true, see, view}
 
 -- all records of a unit in chunks
 abbrev pub all_at : {R : Type 0} → Unit → Chunks R → List R
@@ -16,7 +16,7 @@ abbrev pub joined_up : {X : Type 0} → List (List X) → List X
 joined_up xss = flat_map (λ xs. xs) xss
 
 -- pieces of these chunks in order, the last of them marked
-abbrev pub marks : {R : Type 0} → ℕ → ℕ → List (Chunks R) → List (RPiece R)
+abbrev pub marks : {R : Type 0} → ℕ → ℕ → List (Chunks R) → List (MovePiece R)
 marks total newest [] = []
 marks total newest (c ∷ cs) = record { chunks = c; total = total; newest = newest; last = is_nil cs } ∷ marks total newest cs
 
@@ -78,11 +78,12 @@ chopped_fits v total newest n xs o e =
     let same = joined-chop n xs in
     cut_fits v total newest (chop n xs) o (is_nil-chop n xs) (rw same e)
 
-abbrev r_piece_of : {R : Type 0} → ℕ → RPiece R → Msg R
-r_piece_of n p = M_piece n p
+abbrev piece_message : {R : Type 0} → ℕ → MovePiece R → MoveMsg R
+piece_message n p = MoveMsg.Piece n p
 
 -- and the unit sees each of them
-pub view_pieces : {R : Type 0} (v : Frame) (ps : List (RPiece R)) → (v.move == v.move) ≡ true → view v (map (r_piece_of v.move) ps) ≡ map Piece (map (see v) ps)
+pub view_pieces : {R : Type 0} (v : Frame) (ps : List (MovePiece R)) → (v.move == v.move) ≡ true → view v (map (piece_message v.move) ps)
+    ≡ map Piece (map (see v) ps)
 view_pieces v [] e = refl
 view_pieces v (p ∷ ps) e = rw e (ap (λ z. Piece (see v p) ∷ z) (view_pieces v ps e))
 

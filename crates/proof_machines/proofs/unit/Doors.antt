@@ -2,10 +2,10 @@
 -- Each leads to a stage, in order.
 use Rattle.proof_machines.proofs.unit.Words.{◌≡◌, ℕ, Bool, true, false, Option, Some, None, List, [], ◌∷◌, ◌++◌, refl, sym, ap, ◌∙◌, append_assoc, append-nil}
 use Rattle.proof_machines.proofs.unit.Words.{◌&&◌, Answer, At_a, Ran, Steps, after, joined, Part, pick, or_own, is_nil, MachineStep, Arrive, Take_sa, Take_ac}
-use Rattle.proof_machines.proofs.unit.Words.{Take_bc, Take_ca, Take_cb, Mix, Ev, Pc, Dd, events, parts_in, named, shown-events, nil_is, ArePiecesOf, refit}
-use Rattle.proof_machines.proofs.unit.Words.{pick_all, pick-append, pick_one, others, last_is, none_behind, nil_left, nil_right, Streams, All_put, Hold_goes}
-use Rattle.proof_machines.proofs.unit.Words.{Laying, Restore_goes, Doorway, Is_shut, Is_asked, Is_agreed, Is_denied, Is_wide, Is_refused, Flows, body, GoesOn}
-use Rattle.proof_machines.proofs.unit.Words.{shapes, paths, still}
+use Rattle.proof_machines.proofs.unit.Words.{Take_bc, Take_ca, Take_cb, SourceItem, Event_of, Piece_of, Deleted_of, events, parts_in, named, shown-events}
+use Rattle.proof_machines.proofs.unit.Words.{nil_is, ArePiecesOf, refit, pick_all, pick-append, pick_one, others, last_is, none_behind, nil_left, nil_right}
+use Rattle.proof_machines.proofs.unit.Words.{Streams, All_put, Hold_goes, Laying, Restore_goes, Doorway, Is_shut, Is_asked, Is_agreed, Is_denied, Is_wide}
+use Rattle.proof_machines.proofs.unit.Words.{Is_refused, Flows, body, GoesOn, shapes, paths, still}
 use Rattle.std.proofs.lemmas.Bool.{and_parts, false_from_ne_true}
 use Rattle.proof_machines.proofs.unit.Flow.{arrives, drops_on, deletes, stores, piece_comes}
 use Rattle.proof_machines.proofs.Tests.{either_way}
@@ -31,17 +31,17 @@ joined_pick F g h t o f =
     ] refl ∙ ap (λ p. or_own (pick g) p) (sym (pick_one h)) ∙ sym (pick-append g (h ∷ []))
 
 -- nothing of the body is left
-pub record Calm {R : Type 0} (y : List (Mix R)) (q : List (Part R)) : Type 0 where
+pub record Calm {R : Type 0} (y : List (SourceItem R)) (q : List (Part R)) : Type 0 where
   pub no_named : named y ≡ []
   pub no_delete : q ≡ []
   pub no_piece : parts_in y ≡ []
 
-calm : {R : Type 0} (y : List (Mix R)) (q : List (Part R)) → body y q ≡ [] → Calm y q
+calm : {R : Type 0} (y : List (SourceItem R)) (q : List (Part R)) → body y q ≡ [] → Calm y q
 calm y q e =
     let more = nil_right (named y) (q ++ parts_in y) e in
     record { no_named = nil_left (named y) (q ++ parts_in y) e; no_delete = nil_left q (parts_in y) more; no_piece = nil_right q (parts_in y) more }
 
-calm_tests : {R : Type 0} (y : List (Mix R)) (q : List (Part R)) → is_nil (parts_in y) && is_nil (named y ++ q) ≡ true → Calm y q
+calm_tests : {R : Type 0} (y : List (SourceItem R)) (q : List (Part R)) → is_nil (parts_in y) && is_nil (named y ++ q) ≡ true → Calm y q
 calm_tests y q e =
     let more = nil_is (named y ++ q) (and_parts (is_nil (parts_in y)) (is_nil (named y ++ q)) e).1 in
     record {
@@ -50,23 +50,23 @@ calm_tests y q e =
       no_piece = nil_is (parts_in y) (and_parts (is_nil (parts_in y)) (is_nil (named y ++ q)) e).0;
     }
 
-calm_body : {R : Type 0} (y : List (Mix R)) (q : List (Part R)) → Calm y q → body y q ≡ []
+calm_body : {R : Type 0} (y : List (SourceItem R)) (q : List (Part R)) → Calm y q → body y q ≡ []
 calm_body y q c = let n = c.no_named in let m = c.no_delete in let p = c.no_piece in rw (n, m, p) refl
 
-going_body : {R : Type 0} (y : List (Mix R)) (q : List (Part R)) → is_nil (parts_in y) && is_nil (named y ++ q) ≡ false → is_nil (body y q) ≡ false
+going_body : {R : Type 0} (y : List (SourceItem R)) (q : List (Part R)) → is_nil (parts_in y) && is_nil (named y ++ q) ≡ false → is_nil (body y q) ≡ false
 going_body y q off =
     false_from_ne_true (is_nil (body y q))
     (λ on. let c = calm y q (nil_is (body y q) on) in
     let n = c.no_named in let m = c.no_delete in let p = c.no_piece in
     let never : true ≡ false = rw (n, m, p) at off in cc)
 
-module _ {R : Type 0} (F : Steps R) (d : List Ran) (f : List ℕ) (y : List (Mix R)) (q : List (Part R)) (l : List ℕ) (k : Bool) where
+module _ {R : Type 0} (F : Steps R) (d : List Ran) (f : List ℕ) (y : List (SourceItem R)) (q : List (Part R)) (l : List ℕ) (k : Bool) where
   -- all pieces came back to the source: they are restored
   restores : (v : List (Part R)) (why : Answer) (c : Calm y q) → ArePiecesOf (v ++ body y q) (after F d) → pick v ≡ after F d
   restores v why c w = let none = calm_body y q c in pick_all v (after F d) (refit (rw none (append-nil v)) w)
 
-  pub refused_deleted : (h : Part R) (v : List (Part R)) (why : Answer) (w : Flows F d (Is_refused v why) (body (Dd h ∷ y) q))
-      → GoesOn F (Streams d f (Dd h ∷ y) q l k (Is_refused v why) w) Take_ac
+  pub refused_deleted : (h : Part R) (v : List (Part R)) (why : Answer) (w : Flows F d (Is_refused v why) (body (Deleted_of h ∷ y) q))
+      → GoesOn F (Streams d f (Deleted_of h ∷ y) q l k (Is_refused v why) w) Take_ac
   refused_deleted h v why w =
       let fits = refit (shifted v h (body y q)) w.fits in
       either_way (is_nil (parts_in y) && is_nil (named y ++ q))
@@ -82,7 +82,7 @@ module _ {R : Type 0} (F : Steps R) (d : List Ran) (f : List ℕ) (y : List (Mix
         still At_a d,
       ))
 
-  pub deleted : (h : Part R) (s : Doorway R) (w : Flows F d s (body (Dd h ∷ y) q)) → GoesOn F (Streams d f (Dd h ∷ y) q l k s w) Take_ac
+  pub deleted : (h : Part R) (s : Doorway R) (w : Flows F d s (body (Deleted_of h ∷ y) q)) → GoesOn F (Streams d f (Deleted_of h ∷ y) q l k s w) Take_ac
   deleted h Is_shut w =
       (Streams d f y q l k (Is_asked h []) (record { fits = w.fits; going = refl }), first_of (simp shapes, cc), first_of (simp paths, cc), still At_a d)
   deleted h (Is_asked g v) w = (
@@ -203,16 +203,16 @@ module _ {R : Type 0} (F : Steps R) (d : List Ran) (f : List ℕ) (y : List (Mix
   answered (Is_denied h v why) w = denied h v why w
   answered s w = (Streams d f y q l k s w, first_of (simp shapes, cc), first_of (simp paths, cc), still At_a d)
 
-pub streams : {R : Type 0} (F : Steps R) (d : List Ran) (f : List ℕ) (y : List (Mix R)) (q : List (Part R)) (l : List ℕ) (k : Bool) (s : Doorway R)
+pub streams : {R : Type 0} (F : Steps R) (d : List Ran) (f : List ℕ) (y : List (SourceItem R)) (q : List (Part R)) (l : List ℕ) (k : Bool) (s : Doorway R)
     (w : Flows F d s (body y q)) (m : MachineStep R)
     → GoesOn F (Streams d f y q l k s w) m
 streams F d f y q l k s w (Arrive p) = arrives F d f y q l k s w p
 streams F d f y q l k s w Take_sa = drops_on F d f y q l k s w
 streams F d f y q l k s w (Take_ca parts) = deletes F d f y q l k s w parts
 streams F d f [] q l k s w Take_ac = (Streams d f [] q l k s w, first_of (simp shapes, cc), first_of (simp paths, cc), still At_a d)
-streams F d f (Ev p ∷ y) q l k s w Take_ac = stores F d f y q l k s p w
-streams F d f (Pc h ∷ y) q l k s w Take_ac = piece_comes F d f y q l k s h w
-streams F d f (Dd h ∷ y) q l k s w Take_ac = deleted F d f y q l k h s w
+streams F d f (Event_of p ∷ y) q l k s w Take_ac = stores F d f y q l k s p w
+streams F d f (Piece_of h ∷ y) q l k s w Take_ac = piece_comes F d f y q l k s h w
+streams F d f (Deleted_of h ∷ y) q l k s w Take_ac = deleted F d f y q l k h s w
 streams F d f y q l k s w (Take_cb refuse) = put_taken F d f y q l k s w refuse
 streams F d f y q l k s w Take_bc = answered F d f y q l k s w
 streams F d f y q l k s w m = (Streams d f y q l k s w, first_of (simp shapes, cc), first_of (simp paths, cc), still At_a d)

@@ -4,7 +4,7 @@ use Rattle.std.proofs.lemmas.List.{map-append}
 use Rattle.std.proofs.lemmas.List.Elements.{filter_map-append}
 use Rattle.std.proofs.lemmas.List.Sums.{fold-append}
 use Rattle.proof_machines.proofs.unit.Machine.{Where, At_a, Ran, Steps, after, Part, MachineStep, Begin, Arrive, Take_sa, Take_ac, Take_ca}
-use Rattle.proof_machines.proofs.unit.Lists.{firsts-on, Ev, Pc, events-sent, pieces-sent, named-sent, shown-sent}
+use Rattle.proof_machines.proofs.unit.Lists.{firsts-on, Event_of, Piece_of, events-sent, pieces-sent, named-sent, shown-sent}
 use Rattle.proof_machines.proofs.unit.UnitPieces.{ArePiecesOf, pick_all, not_nil}
 use Rattle.proof_machines.proofs.unit.Stages.{At_rest, Begun, Frozen, Stream_goes, Streams, Flows, Is_shut, body, shape, Allowed, GoesOn, Placed}
 
@@ -41,7 +41,7 @@ frozen F d e l k m = (Frozen d e l k, first_of (simp shapes, cc), first_of (simp
 
 -- what a Stream leaves on the link is the pieces, behind the events
 sent : {R : Type 0} (F : Steps R) (d : List Ran) (e : List ℕ) (parts : List (Part R)) → ArePiecesOf parts (after F d)
-    → Flows F d Is_shut (body (map Ev e ++ map Pc parts) [])
+    → Flows F d Is_shut (body (map Event_of e ++ map Piece_of parts) [])
 sent F d e parts fits = record { fits = rw (named-sent e parts, pieces-sent e parts) fits; going = refl }
 
 pub stream_goes : {R : Type 0} (F : Steps R) (d : List Ran) (f e l : List ℕ) (k : Bool) (m : MachineStep R) → Allowed (shape F (Stream_goes d f e l k)) m
@@ -52,7 +52,7 @@ stream_goes F d f e (p ∷ l) k Take_sa a = (Stream_goes d f (e ++ p ∷ []) l k
 stream_goes F d f [] l k Take_ac a = (Stream_goes d f [] l k, first_of (simp shapes, cc), first_of (simp paths, cc), still At_a d)
 stream_goes F d f (p ∷ e) l k Take_ac a = (Stream_goes d (f ++ p ∷ []) e l k, first_of (simp shapes, cc), first_of (simp paths, cc), still At_a d)
 stream_goes F d f e l k (Take_ca parts) a = (
-  Streams d f (map Ev e ++ map Pc parts) [] l k Is_shut (sent F d e parts a),
+  Streams d f (map Event_of e ++ map Piece_of parts) [] l k Is_shut (sent F d e parts a),
   rw (shown-sent e parts, named-sent e parts, pieces-sent e parts, pick_all parts (after F d) a, not_nil parts (after F d) a) (simp append-nil),
   simp (events-sent, append-nil),
   still At_a d,

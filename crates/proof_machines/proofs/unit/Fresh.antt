@@ -1,9 +1,9 @@
 -- Where an instance processes packets of the unit in a step of the machine, its record is that of the fold of all that was done before.
 use Rattle.proof_machines.proofs.unit.Words.{◌≡◌, ◌≢◌, ℕ, Bool, true, false, Option, Some, None, List, [], ◌∷◌, ◌++◌, map, refl, sym, ap, ◌∙◌, subst}
-use Rattle.proof_machines.proofs.unit.Words.{append-nil, Answer, Where, At_a, At_b, Steps, after, Part, Inst, inst_does, put, Item, Carry, Pass}
-use Rattle.proof_machines.proofs.unit.Words.{Fence, Put, delete, next, State, Take_sa, Take_sb, put_a, put_b, moved, nil_right, drops, Stage, At_rest, Streams}
-use Rattle.proof_machines.proofs.unit.Words.{All_put, Hold_goes, Held, Laying, Turned, Turned_loose, Restore_goes, Doorway, Is_wide, puts_of, shape, all_of}
-use Rattle.proof_machines.proofs.unit.Words.{cons_nil, MachineStep, Allowed, arrived_by, Ran}
+use Rattle.proof_machines.proofs.unit.Words.{append-nil, Answer, Where, At_a, At_b, Steps, after, Part, Inst, inst_does, put, Item, Carry, Pass, Fence, Put}
+use Rattle.proof_machines.proofs.unit.Words.{delete, next, State, Take_sa, Take_sb, put_a, put_b, moved, nil_right, drops, Stage, At_rest, Streams, All_put}
+use Rattle.proof_machines.proofs.unit.Words.{Hold_goes, Held, Laying, Turned, Turned_loose, Restore_goes, Doorway, Is_wide, puts_of, shape, all_of, cons_nil}
+use Rattle.proof_machines.proofs.unit.Words.{MachineStep, Allowed, arrived_by, Ran}
 use Rattle.std.specs.List.{list_all}
 use Rattle.proof_machines.proofs.unit.Lists.{head_passes, all_pass}
 use Rattle.proof_machines.proofs.unit.Bare.{bare_facts, stays_bare}

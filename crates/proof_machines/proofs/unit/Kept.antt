@@ -2,8 +2,8 @@
 -- source.
 use Rattle.proof_machines.proofs.unit.Words.{◌≡◌, ℕ, Bool, Option, Some, None, List, [], ◌∷◌, ◌++◌, map, refl, sym, ap, ◌∙◌, append_assoc, append-nil}
 use Rattle.proof_machines.proofs.unit.Words.{option_to_list, Ran, Steps, after, Part, pick, Item, Put, Restore, Event, Piece, Put_no, Phase, next, delete}
-use Rattle.proof_machines.proofs.unit.Words.{State, Mix, Ev, Pc, Dd, shown, parts_in, named, records, first, pick_first}
-use Rattle.proof_machines.proofs.unit.Words.{Stage, At_rest, Begun, Frozen, Stream_goes, Streams, All_put, Hold_goes, Held, Laying, Turned, Fenced_a, Ending_b}
+use Rattle.proof_machines.proofs.unit.Words.{State, SourceItem, Event_of, Piece_of, Deleted_of, shown, parts_in, named, records, first, pick_first, Stage}
+use Rattle.proof_machines.proofs.unit.Words.{At_rest, Begun, Frozen, Stream_goes, Streams, All_put, Hold_goes, Held, Laying, Turned, Fenced_a, Ending_b}
 use Rattle.proof_machines.proofs.unit.Words.{Fence_b, Turned_loose, Fenced_loose, Ending_loose, Fence_loose, Fenced_b, Moved, Restore_goes, Restored_comes}
 use Rattle.proof_machines.proofs.unit.Words.{Turn_goes, Turned_back, Returned, Fence_a, Fenced_back, Undone, Doorway, Is_shut, Is_asked, Is_agreed, Is_denied}
 use Rattle.proof_machines.proofs.unit.Words.{Is_wide, Is_refused, Flows, front, free_of, puts_of, answers_of, live_of, body, shape}
@@ -24,11 +24,11 @@ abbrev pub records_on : {R : Type 0} → List (Item R) → List R
 records_on xs = filter_map record_in xs
 
 abbrev pub frozen_in : {R : Type 0} → Phase R → List R
-frozen_in (Streaming fz fr came door) = records fz
+frozen_in (Streaming to_remove removed came door) = records to_remove
 frozen_in phase = []
 
 abbrev pub free_in : {R : Type 0} → Phase R → List R
-free_in (Streaming fz fr came door) = records fr
+free_in (Streaming to_remove removed came door) = records removed
 free_in phase = []
 
 -- all copies of the unit's record that are on their way or kept by the controller
@@ -50,11 +50,11 @@ IsKept F u = Kept (after F u.done) u.a.live (lives u) (on_way u)
 pub none_on_events : (R : Type 0) (l : List ℕ) → records_on (map (λ p. let x : Item R = Event p in x) l) ≡ []
 none_on_events R l = picked_none _ _ (λ p. refl) l
 
-on_pieces : {R : Type 0} (y : List (Mix R)) → records_on (map shown y) ≡ records (parts_in y)
+on_pieces : {R : Type 0} (y : List (SourceItem R)) → records_on (map shown y) ≡ records (parts_in y)
 on_pieces [] = refl
-on_pieces (Ev p ∷ y) = on_pieces y
-on_pieces (Pc h ∷ y) = ap (cons_option h.own) (on_pieces y)
-on_pieces (Dd h ∷ y) = on_pieces y
+on_pieces (Event_of p ∷ y) = on_pieces y
+on_pieces (Piece_of h ∷ y) = ap (cons_option h.own) (on_pieces y)
+on_pieces (Deleted_of h ∷ y) = on_pieces y
 
 on_puts : {R : Type 0} (w : List (Part R)) → records_on (map next w) ≡ records w
 on_puts [] = refl
@@ -112,7 +112,7 @@ way_is (Is_denied h v why) q = rw (none_on_deletes q, append-nil (records v)) (s
 way_is (Is_wide g w) q = rw (none_on_deletes q, on_puts w) (append-nil (records w))
 way_is (Is_refused v why) q = rw (none_on_deletes q) (append-nil (records v))
 
-streams_kept : {R : Type 0} (F : Steps R) (d : List Ran) (f : List ℕ) (y : List (Mix R)) (q : List (Part R)) (l : List ℕ) (k : Bool) (s : Doorway R)
+streams_kept : {R : Type 0} (F : Steps R) (d : List Ran) (f : List ℕ) (y : List (SourceItem R)) (q : List (Part R)) (l : List ℕ) (k : Bool) (s : Doorway R)
     (w : Flows F d s (body y q))
     → IsKept F (shape F (Streams d f y q l k s w))
 streams_kept F d f y q l k s w =

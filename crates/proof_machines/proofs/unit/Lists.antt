@@ -45,36 +45,36 @@ marked-plain [] = refl
 marked-plain (x ∷ xs) = ap (λ z. Carry x ∷ z) (marked-plain xs)
 
 -- the link from the source while the move streams: events, pieces and the Deleteds of pieces that the controller keeps
-pub data Mix (R : Type 0) : Type 0 where
-  Ev : ℕ → Mix R
-  Pc : Part R → Mix R
-  Dd : Part R → Mix R
+pub data SourceItem (R : Type 0) : Type 0 where
+  Event_of : ℕ → SourceItem R
+  Piece_of : Part R → SourceItem R
+  Deleted_of : Part R → SourceItem R
 
-abbrev pub shown : {R : Type 0} → Mix R → Item R
-shown (Ev p) = Event p
-shown (Pc h) = Piece h
-shown (Dd h) = Deleted
+abbrev pub shown : {R : Type 0} → SourceItem R → Item R
+shown (Event_of p) = Event p
+shown (Piece_of h) = Piece h
+shown (Deleted_of h) = Deleted
 
-abbrev event_of : {R : Type 0} → Mix R → Option ℕ
-event_of (Ev p) = Some p
+abbrev event_of : {R : Type 0} → SourceItem R → Option ℕ
+event_of (Event_of p) = Some p
 event_of x = None
 
-abbrev piece_of : {R : Type 0} → Mix R → Option (Part R)
-piece_of (Pc h) = Some h
+abbrev piece_of : {R : Type 0} → SourceItem R → Option (Part R)
+piece_of (Piece_of h) = Some h
 piece_of x = None
 
-abbrev deleted_of : {R : Type 0} → Mix R → Option (Part R)
-deleted_of (Dd h) = Some h
+abbrev deleted_of : {R : Type 0} → SourceItem R → Option (Part R)
+deleted_of (Deleted_of h) = Some h
 deleted_of x = None
 
-abbrev pub events : {R : Type 0} → List (Mix R) → List ℕ
+abbrev pub events : {R : Type 0} → List (SourceItem R) → List ℕ
 events y = filter_map event_of y
 
-abbrev pub parts_in : {R : Type 0} → List (Mix R) → List (Part R)
+abbrev pub parts_in : {R : Type 0} → List (SourceItem R) → List (Part R)
 parts_in y = filter_map piece_of y
 
 -- the pieces whose Deleted is on the link
-abbrev pub named : {R : Type 0} → List (Mix R) → List (Part R)
+abbrev pub named : {R : Type 0} → List (SourceItem R) → List (Part R)
 named y = filter_map deleted_of y
 
 -- what is picked of a list of one kind: all of it, or nothing
@@ -107,22 +107,22 @@ all_pass p make is [] = refl
 all_pass p make is (x ∷ xs) = ap (λ b. b && list_all p (map make xs)) (is x) ∙ all_pass p make is xs
 
 -- the link as Stream leaves it
-pub events-sent : {R : Type 0} (e : List ℕ) (ps : List (Part R)) → events (map Ev e ++ map Pc ps) ≡ e
+pub events-sent : {R : Type 0} (e : List ℕ) (ps : List (Part R)) → events (map Event_of e ++ map Piece_of ps) ≡ e
 events-sent [] [] = refl
 events-sent [] (p ∷ ps) = events-sent [] ps
 events-sent (x ∷ e) ps = ap (λ z. x ∷ z) (events-sent e ps)
 
-pub pieces-sent : {R : Type 0} (e : List ℕ) (ps : List (Part R)) → parts_in (map Ev e ++ map Pc ps) ≡ ps
+pub pieces-sent : {R : Type 0} (e : List ℕ) (ps : List (Part R)) → parts_in (map Event_of e ++ map Piece_of ps) ≡ ps
 pieces-sent [] [] = refl
 pieces-sent [] (p ∷ ps) = ap (λ z. p ∷ z) (pieces-sent [] ps)
 pieces-sent (x ∷ e) ps = pieces-sent e ps
 
-pub named-sent : {R : Type 0} (e : List ℕ) (ps : List (Part R)) → named (map Ev e ++ map Pc ps) ≡ []
+pub named-sent : {R : Type 0} (e : List ℕ) (ps : List (Part R)) → named (map Event_of e ++ map Piece_of ps) ≡ []
 named-sent [] [] = refl
 named-sent [] (p ∷ ps) = named-sent [] ps
 named-sent (x ∷ e) ps = named-sent e ps
 
-pub shown-sent : {R : Type 0} (e : List ℕ) (ps : List (Part R)) → map shown (map Ev e ++ map Pc ps) ≡ map Event e ++ map Piece ps
+pub shown-sent : {R : Type 0} (e : List ℕ) (ps : List (Part R)) → map shown (map Event_of e ++ map Piece_of ps) ≡ map Event e ++ map Piece ps
 shown-sent [] [] = refl
 shown-sent [] (p ∷ ps) = ap (λ z. Piece p ∷ z) (shown-sent [] ps)
 shown-sent (x ∷ e) ps = ap (λ z. Event x ∷ z) (shown-sent e ps)
@@ -142,8 +142,8 @@ map_nil g [] e = refl
 map_nil g (x ∷ xs) e = cons_nil e
 
 -- where no piece and no Deleted is left, the link has events alone
-pub shown-events : {R : Type 0} (y : List (Mix R)) → named y ≡ [] → parts_in y ≡ [] → map shown y ≡ map Event (events y)
+pub shown-events : {R : Type 0} (y : List (SourceItem R)) → named y ≡ [] → parts_in y ≡ [] → map shown y ≡ map Event (events y)
 shown-events [] n p = refl
-shown-events (Ev x ∷ y) n p = ap (λ z. Event x ∷ z) (shown-events y n p)
-shown-events (Pc h ∷ y) n p = cons_nil p
-shown-events (Dd h ∷ y) n p = cons_nil n
+shown-events (Event_of x ∷ y) n p = ap (λ z. Event x ∷ z) (shown-events y n p)
+shown-events (Piece_of h ∷ y) n p = cons_nil p
+shown-events (Deleted_of h ∷ y) n p = cons_nil n

@@ -1,6 +1,6 @@
 -- Each step of a move without a buffer at B, after its Install, leads to a stage, with the same packets in whatever order.
-use Rattle.proof_machines.proofs.unit.Words.{ℕ, Bool, true, false, List, [], ◌∷◌, ◌++◌, append_assoc, append-nil, arith, At_b, Ran, Steps}
-use Rattle.proof_machines.proofs.unit.Words.{MachineStep, Arrive, Take_sa, Take_sb, Take_ac, Take_cs, map-append, passing, plain, plains}
+use Rattle.proof_machines.proofs.unit.Words.{ℕ, Bool, true, false, List, [], ◌∷◌, ◌++◌, append_assoc, append-nil, arith, At_b, Ran, Steps, MachineStep, Arrive}
+use Rattle.proof_machines.proofs.unit.Words.{Take_sa, Take_sb, Take_ac, Take_cs, map-append, passing, plain, plains}
 use Rattle.std.proofs.lemmas.List.Elements.{filter_map-append}
 use Rattle.proof_machines.proofs.unit.Words.{Turned_loose, Fenced_loose, Ending_loose, Fence_loose, Fenced_b, GoesOn, shapes, paths, still, one_more}
 pub use Rattle.actor_net.proofs.NumberCounts.{none_in, times-append}

@@ -4,8 +4,8 @@ use Rattle.proof_machines.proofs.unit.Words.{Item, Carry, Pass}
 use Rattle.std.specs.List.{filter_map}
 use Rattle.std.proofs.lemmas.List.Elements.{filter_map-append}
 use Rattle.proof_machines.proofs.unit.Lists.{picked_each, picked_none}
-use Rattle.proof_machines.proofs.unit.Words.{Event, Forward, State, marked, passes, plains, Mix, Ev, Pc, Dd, shown, events, Stage, At_rest, shape, path, to_a}
-use Rattle.proof_machines.proofs.unit.Words.{to_b, nil_left, nil_right}
+use Rattle.proof_machines.proofs.unit.Words.{Event, Forward, State, marked, passes, plains, SourceItem, Event_of, Piece_of, Deleted_of, shown, events, Stage}
+use Rattle.proof_machines.proofs.unit.Words.{At_rest, shape, path, to_a, to_b, nil_left, nil_right}
 
 -- the packet of an item of a kind
 abbrev pass_of : {R : Type 0} → Item R → Option ℕ
@@ -130,11 +130,11 @@ mixed_carries R [] = refl
 mixed_carries R ((true, p) ∷ x) = mixed_carries R x
 mixed_carries R ((false, p) ∷ x) = ap (λ z. p ∷ z) (mixed_carries R x)
 
-pub mixed_events : {R : Type 0} (y : List (Mix R)) → events_in (map shown y) ≡ events y
+pub mixed_events : {R : Type 0} (y : List (SourceItem R)) → events_in (map shown y) ≡ events y
 mixed_events [] = refl
-mixed_events (Ev p ∷ y) = ap (λ z. p ∷ z) (mixed_events y)
-mixed_events (Pc h ∷ y) = mixed_events y
-mixed_events (Dd h ∷ y) = mixed_events y
+mixed_events (Event_of p ∷ y) = ap (λ z. p ∷ z) (mixed_events y)
+mixed_events (Piece_of h ∷ y) = mixed_events y
+mixed_events (Deleted_of h ∷ y) = mixed_events y
 
 ruleset reads = (
   filter_map-append,

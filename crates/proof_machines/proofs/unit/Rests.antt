@@ -1,6 +1,6 @@
 -- The machine at rest: with no message on a link the move has ended and no packet is left.
-use Rattle.proof_machines.proofs.unit.Words.{◌≡◌, ℕ, Bool, true, false, List, [], ◌∷◌, ◌++◌, refl, sym, Ran, Steps, Part, Phase, Over, delete}
-use Rattle.proof_machines.proofs.unit.Words.{State, Mix, shown, cons_nil, map_nil, Stage, At_rest, Begun, Frozen, Stream_goes, Streams, All_put, Hold_goes}
+use Rattle.proof_machines.proofs.unit.Words.{◌≡◌, ℕ, Bool, true, false, List, [], ◌∷◌, ◌++◌, refl, sym, Ran, Steps, Part, Phase, Over, delete, State}
+use Rattle.proof_machines.proofs.unit.Words.{SourceItem, shown, cons_nil, map_nil, Stage, At_rest, Begun, Frozen, Stream_goes, Streams, All_put, Hold_goes}
 use Rattle.proof_machines.proofs.unit.Words.{Held, Laying, Turned, Fenced_a, Ending_b, Fence_b, Turned_loose, Fenced_loose, Ending_loose, Fence_loose, Fenced_b}
 use Rattle.proof_machines.proofs.unit.Words.{Moved, Restore_goes, Restored_comes, Turn_goes, Turned_back, Returned, Fence_a, Fenced_back, Undone, Doorway}
 use Rattle.proof_machines.proofs.unit.Words.{Is_shut, Is_asked, Is_agreed, Is_denied, Is_wide, Is_refused, Flows, body, shape, path, IsOrderedAs}
@@ -33,7 +33,7 @@ behind_nil (a ∷ xs) x ys e = cons_nil e
 true_false : {Y : Type 0} → true ≡ false → Y
 true_false e = cc
 
-streams_on : {R : Type 0} (F : Steps R) (d : List Ran) (f : List ℕ) (y : List (Mix R)) (q : List (Part R)) (l : List ℕ) (k : Bool) (s : Doorway R)
+streams_on : {R : Type 0} (F : Steps R) (d : List Ran) (f : List ℕ) (y : List (SourceItem R)) (q : List (Part R)) (l : List ℕ) (k : Bool) (s : Doorway R)
     (w : Flows F d s (body y q))
     → Silent (shape F (Streams d f y q l k s w)) → y ≡ [] → q ≡ [] → Complete (Streams d f y q l k s w)
 streams_on F d f (a ∷ y) q l k s w h i j = cons_nil i

@@ -1,8 +1,8 @@
 -- Seats: a unit that the move covers, one that its destination owns already, one of a third instance. Each step leads from a seat to
 -- a seat, and without a message the move is over.
-use Rattle.proof_machines.proofs.unit.Words.{ap, ◌≡◌, ℕ, Bool, true, false, List, ◌++◌, refl, sym, ◌∙◌, Where, At_b, At_c, Ran, Steps, Free, State}
-use Rattle.proof_machines.proofs.unit.Words.{MachineStep, moved, Stage, At_rest, shape, path, processed, all_of, loose, side_of, IsOrderedAs, Placed, Allowed}
-use Rattle.proof_machines.proofs.unit.Words.{arrived_by, never_true}
+use Rattle.proof_machines.proofs.unit.Words.{ap, ◌≡◌, ℕ, Bool, true, false, List, ◌++◌, refl, sym, ◌∙◌, Where, At_b, At_c, Ran, Steps, Free, State, MachineStep}
+use Rattle.proof_machines.proofs.unit.Words.{moved, Stage, At_rest, shape, path, processed, all_of, loose, side_of, IsOrderedAs, Placed, Allowed, arrived_by}
+use Rattle.proof_machines.proofs.unit.Words.{never_true}
 use Rattle.proof_machines.proofs.unit.Steps.{goes_on}
 use Rattle.proof_machines.proofs.unit.Away.{Away, shape_away, all_away, away_goes_on}
 use Rattle.proof_machines.proofs.unit.DestinationUnits.{DestinationUnit, strip, shape_beside, all_beside, beside_goes_on}

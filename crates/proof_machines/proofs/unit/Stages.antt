@@ -8,11 +8,11 @@ use Rattle.proof_machines.proofs.unit.Machine.{Where, At_a, At_b, Ran, on, Steps
 use Rattle.proof_machines.proofs.unit.Machine.{Restore, Enabled, Event, Put_ok, Put_no, Restored, Fenced, Forward, Fence_to, Install, Free, Drops, Buffers}
 use Rattle.proof_machines.proofs.unit.Machine.{Inst, idle, Door, Shut, Asked, Open, Refused, Idle, Freezing, Streaming, Holding, Passing, Ending, Restoring}
 use Rattle.proof_machines.proofs.unit.Machine.{Returning, Undoing, Over, next, delete, State, MachineStep, Arrive, Take_ca, moved, Ended}
-use Rattle.proof_machines.proofs.unit.Lists.{firsts, marked, passes, plains, Mix, shown, events, parts_in, named}
+use Rattle.proof_machines.proofs.unit.Lists.{firsts, marked, passes, plains, SourceItem, shown, events, parts_in, named}
 use Rattle.proof_machines.proofs.unit.UnitPieces.{ArePiecesOf}
 
 -- the pieces that aren't free yet, in order: Deleted on the link, Delete on the link, on the link themselves
-abbrev pub body : {R : Type 0} → List (Mix R) → List (Part R) → List (Part R)
+abbrev pub body : {R : Type 0} → List (SourceItem R) → List (Part R) → List (Part R)
 body y q = named y ++ (q ++ parts_in y)
 
 -- the door with the pieces behind it: those that are put (g), on their way to B (w), free (v)
@@ -80,7 +80,7 @@ pub data Stage {R : Type 0} (F : Steps R) : Type 0 where
   Begun : (d : List Ran) (l : List ℕ) (k : Bool) → Stage F
   Frozen : (d : List Ran) (e l : List ℕ) (k : Bool) → Stage F
   Stream_goes : (d : List Ran) (f e l : List ℕ) (k : Bool) → Stage F
-  Streams : (d : List Ran) (f : List ℕ) (y : List (Mix R)) (q : List (Part R)) (l : List ℕ) (k : Bool) (s : Doorway R) → Flows F d s (body y q) → Stage F
+  Streams : (d : List Ran) (f : List ℕ) (y : List (SourceItem R)) (q : List (Part R)) (l : List ℕ) (k : Bool) (s : Doorway R) → Flows F d s (body y q) → Stage F
   All_put : (d : List Ran) (f e l : List ℕ) (k : Bool) → Stage F
   Hold_goes : (d : List Ran) (f e l : List ℕ) → Stage F
   Held : (d : List Ran) (f e l : List ℕ) → Stage F

@@ -1,9 +1,9 @@
 -- A record that is live at the source and on its way as well is one that the source has given and is still to remove: it stands in a piece
 -- on the link from the source, or its Delete on the link to it. And what a seat has of a third instance.
 use Rattle.proof_machines.proofs.unit.Words.{◌≡◌, Bool, true, false, Option, Some, None, List, [], ◌∷◌, ◌++◌, map, refl, sym, ◌∙◌, ◌||◌, is_some, At_c, Steps}
-use Rattle.proof_machines.proofs.unit.Words.{Part, pick, or_own, Item, Piece, Delete, delete, Mix, Ev, Pc, Dd, parts_in, pick-append, Stage, At_rest, Begun}
-use Rattle.proof_machines.proofs.unit.Words.{Frozen, Stream_goes, Streams, Restored_comes, Turn_goes, Turned_back, Returned, Fence_a, Fenced_back, Undone}
-use Rattle.proof_machines.proofs.unit.Words.{shape}
+use Rattle.proof_machines.proofs.unit.Words.{Part, pick, or_own, Item, Piece, Delete, delete, SourceItem, Event_of, Piece_of, Deleted_of, parts_in, pick-append}
+use Rattle.proof_machines.proofs.unit.Words.{Stage, At_rest, Begun, Frozen, Stream_goes, Streams, Restored_comes, Turn_goes, Turned_back, Returned, Fence_a}
+use Rattle.proof_machines.proofs.unit.Words.{Fenced_back, Undone, shape}
 use Rattle.std.specs.List.{list_any}
 use Rattle.proof_machines.proofs.unit.Lists as lists
 use Rattle.std.proofs.lemmas.List.Elements.{filter_map-append}
@@ -25,11 +25,11 @@ pub data ToRemove {R : Type 0} (from to : List (Item R)) : Type 0 where
   Is_given : list_any gives from ≡ true → ToRemove from to
   Is_named : list_any deletes to ≡ true → ToRemove from to
 
-given : {R : Type 0} (y : List (Mix R)) (r : R) → pick (parts_in y) ≡ Some r → list_any gives (map lists.shown y) ≡ true
+given : {R : Type 0} (y : List (SourceItem R)) (r : R) → pick (parts_in y) ≡ Some r → list_any gives (map lists.shown y) ≡ true
 given [] r e = cc
-given (Ev p ∷ y) r e = given y r e
-given (Dd h ∷ y) r e = given y r e
-given (Pc h ∷ y) r e = elim h.own as (λ o. or_own o (pick (parts_in y)) ≡ Some r → is_some o || list_any gives (map lists.shown y) ≡ true)
+given (Event_of p ∷ y) r e = given y r e
+given (Deleted_of h ∷ y) r e = given y r e
+given (Piece_of h ∷ y) r e = elim h.own as (λ o. or_own o (pick (parts_in y)) ≡ Some r → is_some o || list_any gives (map lists.shown y) ≡ true)
     [ None ↦ λ there. given y r there | Some s ↦ λ _. refl ] e
 
 named : {R : Type 0} (q : List (Part R)) (r : R) → pick q ≡ Some r → list_any deletes (map delete q) ≡ true
@@ -38,7 +38,7 @@ named (h ∷ q) r e =
     elim h.own as (λ o. or_own o (pick q) ≡ Some r → is_some o || list_any deletes (map delete q) ≡ true)
     [ None ↦ λ there. named q r there | Some s ↦ λ _. refl ] e
 
-streaming : {R : Type 0} (y : List (Mix R)) (q : List (Part R)) (r : R) → pick (q ++ parts_in y) ≡ Some r → ToRemove (map lists.shown y) (map delete q)
+streaming : {R : Type 0} (y : List (SourceItem R)) (q : List (Part R)) (r : R) → pick (q ++ parts_in y) ≡ Some r → ToRemove (map lists.shown y) (map delete q)
 streaming y q r e =
     elim (pick q) as (λ o. pick q ≡ o → or_own o (pick (parts_in y)) ≡ Some r → ToRemove (map lists.shown y) (map delete q)) [
       | None ↦ λ _ there. Is_given (given y r there)

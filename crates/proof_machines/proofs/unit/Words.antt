@@ -16,9 +16,9 @@ pub use Rattle.nf_msgs.specs.declared.answer.Answer.{Answer}
 pub use Rattle.record_table.specs.Table.{same_unit, is_among, Records, without, either, newest_of}
 pub use Rattle.proof_machines.proofs.Tests.{split, by_if}
 pub use Rattle.proof_machines.proofs.unit.Early.{still, one_more, shapes, paths, at_rest, begun_on, frozen, stream_goes}
-pub use Rattle.proof_machines.proofs.unit.Lists.{firsts, passing, plain, passes-plain, plains-plain, marked-plain, marked, never_true, firsts-on, Mix, Ev, Pc}
-pub use Rattle.proof_machines.proofs.unit.Lists.{Dd, events, parts_in, named, shown-events, nil_is, cons_nil, shown, passes-passing, plains-passing}
-pub use Rattle.proof_machines.proofs.unit.Lists.{marked-passing, plains, passes, map_nil}
+pub use Rattle.proof_machines.proofs.unit.Lists.{firsts, passing, plain, passes-plain, plains-plain, marked-plain, marked, never_true, firsts-on, SourceItem}
+pub use Rattle.proof_machines.proofs.unit.Lists.{Event_of, Piece_of, Deleted_of, events, parts_in, named, shown-events, nil_is, cons_nil, shown, passes-passing}
+pub use Rattle.proof_machines.proofs.unit.Lists.{plains-passing, marked-passing, plains, passes, map_nil}
 pub use Rattle.proof_machines.proofs.unit.Machine.{At_a, At_b, At_c, Ran, Steps, after, Item, Carry, Forward, Fence_to, idle, Phase, Idle, State, MachineStep}
 pub use Rattle.proof_machines.proofs.unit.Machine.{Begin, Arrive, Take_sa, Take_sb, Take_sc, Take_ac, Take_bc, Take_ca, Take_cb, Take_cs, moved, begun}
 pub use Rattle.proof_machines.proofs.unit.Machine.{switch_does, Over, on, joined, Part, Rule, Free, Drops, Buffers, Pass, Fence, Enable, Put, next, Where}

@@ -1,7 +1,7 @@
 -- Where no message stands on the links between the first nodes, among them the members of shares and the sides of open moves: a unit under a share has
 -- no packet left, its share is idle, and each member's record is the fold of all that was done. Any other unit is as moves leave it.
 use Rattle.proof_machines.proofs.net.Words.{◌≡◌, ℕ, ◌≤◌, ◌<◌, Bool, true, false, None, Some, List, [], ◌++◌, sym, ap, ◌∙◌, append-nil, ◌&&◌, ◌==◌, IsOrderedAs}
-use Rattle.proof_machines.proofs.net.Words.{Idle, has, runs, shape, self, own_is, Sys, IsSys, Open, find_op, done_u, unit_share, WantShare, olds, Sharing}
+use Rattle.proof_machines.proofs.net.Words.{Idle, has, runs, shape, self, own_is, Sys, IsSys, Open, find_op, done_u, unit_share, ShareAsked, olds, Sharing}
 use Rattle.proof_machines.proofs.net.Words.{OpenShare, find_share, WholeWorld, moves_of, Unit}
 use Rattle.proof_machines.proofs.net.AtEnd.{AtEnd, at_end}
 use Rattle.proof_machines.proofs.net.Readings.{fold}
@@ -28,7 +28,7 @@ module _ {R : Type 0} (S : Sys R) (A : Sharing S) (laws : IsSys S) (u : Unit) (n
     At_share : (e : OpenShare) → ShareRests k e → EndsAll k
 
   module _ (some : 2 ≤ n) (quiet : (i j : ℕ) → i < n → j < n → (i == 0) && (j == 0) ≡ false → w.link i j ≡ []) where
-    share_ends : (k : Came) (x : WantShare) (before : List ℕ) (b : Bool) (h : Under S A (seeing S A u x) w before k.diverted)
+    share_ends : (k : Came) (x : ShareAsked) (before : List ℕ) (b : Bool) (h : Under S A (seeing S A u x) w before k.diverted)
         → ((j : ℕ) → has x.members j ≡ true → j < n) → IsOrderedAs b (before ++ k.diverted) k.all → (b ≡ true → k.bared ≡ true)
         → ShareRests k (its_share S A laws u w x before k.diverted h)
     share_ends k x before b h few o i =

@@ -1,7 +1,7 @@
 -- The invariant of the whole world: what holds of all units at once, and for every unit where it is and that its records which stand by or are in
 -- chunks are folds of fronts of what was done. Each step keeps it, and so does each begin.
 use Rattle.proof_machines.proofs.net.Words.{◌≡◌, ℕ, ◌≤◌, Bool, true, false, List, ◌∷◌, ◌==◌, Filter, Asked, MoveAsked, Sys, IsSys, TakesSome, GlobalAll, Any}
-use Rattle.proof_machines.proofs.net.Words.{Old, New, S_asked, WantShare, Sharing, IsSharing, WholeWorld, moves_of, whole_inst, whole_ctrl, whole_switch}
+use Rattle.proof_machines.proofs.net.Words.{Old, New, ShareMsg, ShareAsked, Sharing, IsSharing, WholeWorld, moves_of, whole_inst, whole_ctrl, whole_switch}
 use Rattle.proof_machines.proofs.net.Words.{whole_input, asks, begin_move, begin_share, puts_get, keeps, meets_shares, MayShare, ran_of, SeeingShare, Unit}
 use Rattle.proof_machines.proofs.net.Units.{May}
 use Rattle.proof_machines.proofs.net.GlobalSteps.{inst_keeps, ctrl_keeps, switch_keeps, input_keeps}
@@ -72,7 +72,8 @@ module _ {R : Type 0} (S : Sys R) (A : Sharing S) (laws : IsSys S) where
     fronts = λ u. asks_move_fronts S A laws u w (h.fronts u) x;
   }
 
-  pub asks_share_every_all : (w : WholeWorld S A) (came : Unit → Came) → EveryAll w came → (x : WantShare) → EveryAll (asks S A w (New (S_asked x))) came
+  pub asks_share_every_all : (w : WholeWorld S A) (came : Unit → Came) → EveryAll w came → (x : ShareAsked)
+      → EveryAll (asks S A w (New (ShareMsg.Asked x))) came
   asks_share_every_all w came h x = record {
     global = asks_share_keeps S A laws w h.global x;
     unit = λ u. asks_share_all S A laws u w (came u) x (h.unit u);
@@ -88,7 +89,7 @@ module _ {R : Type 0} (S : Sys R) (A : Sharing S) (laws : IsSys S) where
     fronts = λ u. move_fronts S A laws u w (h.fronts u) x;
   }
 
-  pub share_every_all : IsSharing S A → (w : WholeWorld S A) (came : Unit → Came) → EveryAll w came → (x : WantShare) → MayShare S A w x
+  pub share_every_all : IsSharing S A → (w : WholeWorld S A) (came : Unit → Came) → EveryAll w came → (x : ShareAsked) → MayShare S A w x
       → EveryAll (begin_share S A w x) came
   share_every_all ok w came h x may = record {
     global = share_keeps S A laws w h.global x may;

@@ -3,9 +3,8 @@
 use Rattle.proof_machines.proofs.net.Words.{◌≡◌, ℕ, Bool, true, false, Option, Some, None, List, [], ◌∷◌, ◌++◌, ◌⊎◌, inl, inr, refl, sym, ap, ◌∙◌, subst}
 use Rattle.proof_machines.proofs.net.Words.{append-nil, append_assoc, if◌then◌else◌, ◌&&◌, ◌==◌, option_to_list, option_map_or, Decides-eqb, State, idle}
 use Rattle.proof_machines.proofs.net.Words.{record_at, first, first_of_one, record_first, Kept, Nowhere, Is_live, On_way, Twice, runs, over, IsFront}
-use Rattle.proof_machines.proofs.net.Words.{runs-append, Sys, IsSys, process, everything, Seeing, node_at, done_u, GlobalAll, New, ShareMsg, S_sync, S_chunks}
-use Rattle.proof_machines.proofs.net.Words.{S_shared, EachNew, Sharing, shared_chunk, WholeWorld, moves_of, ran_of, same_unit, same_unit_equiv, same_unit-true}
-use Rattle.proof_machines.proofs.net.Words.{either_way, by_if, Unit}
+use Rattle.proof_machines.proofs.net.Words.{runs-append, Sys, IsSys, process, everything, Seeing, node_at, done_u, GlobalAll, New, ShareMsg, EachNew, Sharing}
+use Rattle.proof_machines.proofs.net.Words.{shared_chunk, WholeWorld, moves_of, ran_of, same_unit, same_unit_equiv, same_unit-true, either_way, by_if, Unit}
 use Rattle.proof_machines.proofs.share.Share.{Ran}
 use Rattle.proof_machines.proofs.net.Readings.{fold, RecordOf}
 use Rattle.proof_machines.proofs.net.NewMessages.{EachSentNew}
@@ -57,9 +56,9 @@ module _ {R : Type 0} (S : Sys R) (A : Sharing S) (laws : IsSys S) (u : Unit) wh
     pub front : IsFront seen ds
 
   abbrev pub MsgFront : List Ran → ShareMsg R → Type 0
-  MsgFront ds (S_sync n home cs) = FrontOf ds (record_at u cs)
-  MsgFront ds (S_chunks n cs) = FrontOf ds (record_at u cs)
-  MsgFront ds (S_shared n c) = FrontOf ds (record_at u (c ∷ []))
+  MsgFront ds (ShareMsg.Sync n home cs) = FrontOf ds (record_at u cs)
+  MsgFront ds (ShareMsg.Chunks n cs) = FrontOf ds (record_at u cs)
+  MsgFront ds (ShareMsg.Shared n c) = FrontOf ds (record_at u (c ∷ []))
   MsgFront ds m = Prim.Unit {0}
 
   pub record Fronts (w : WholeWorld S A) : Type 0 where
@@ -84,9 +83,9 @@ module _ {R : Type 0} (S : Sys R) (A : Sharing S) (laws : IsSys S) (u : Unit) wh
   front_over ds c r a b = elim c as (λ o. FrontOf ds o → FrontOf ds (over o r)) [ None ↦ λ _. b | Some x ↦ λ k. k ] a
 
   pub msg_more : (ds es : List Ran) (m : ShareMsg R) → MsgFront ds m → MsgFront (ds ++ es) m
-  msg_more ds es (S_sync n home cs) h = front_more ds es (record_at u cs) h
-  msg_more ds es (S_chunks n cs) h = front_more ds es (record_at u cs) h
-  msg_more ds es (S_shared n c) h = front_more ds es (record_at u (c ∷ [])) h
+  msg_more ds es (ShareMsg.Sync n home cs) h = front_more ds es (record_at u cs) h
+  msg_more ds es (ShareMsg.Chunks n cs) h = front_more ds es (record_at u cs) h
+  msg_more ds es (ShareMsg.Shared n c) h = front_more ds es (record_at u (c ∷ [])) h
   msg_more ds es m h = tt
 
   pub ran_more : (xs ys : List Ran) → ran_of S A u (xs ++ ys) ≡ ran_of S A u xs ++ ran_of S A u ys
@@ -165,7 +164,8 @@ module _ {R : Type 0} (S : Sys R) (A : Sharing S) (laws : IsSys S) (u : Unit) wh
 
     pub chunk_front : (n : ℕ) → EachSentNew (λ _ m. MsgFront (ds ++ ran_of S A u ((p, y) ∷ [])) m) (shared_chunk S A n p (process S t p))
     chunk_front n = elim (S.B.at (S.packet_unit p) (process S t p)) as (λ o. S.B.at (S.packet_unit p) (process S t p) ≡ o
-        → EachSentNew (λ _ m. MsgFront (ds ++ ran_of S A u ((p, y) ∷ [])) m) (option_map_or (λ r. (1, New (S_shared n (S.packet_unit p, r))) ∷ []) o [])) [
+        → EachSentNew (λ _ m. MsgFront (ds ++ ran_of S A u ((p, y) ∷ [])) m)
+        (option_map_or (λ r. (1, New (ShareMsg.Shared n (S.packet_unit p, r))) ∷ []) o [])) [
           | None ↦ λ _. tt
           | Some r ↦ λ is. (chunk_of r is, tt)
         ] refl

@@ -2,8 +2,8 @@
 -- the record there is the fold of all that was done before.
 use Rattle.proof_machines.proofs.net.Words.{◌≡◌, ◌≢◌, ℕ, Bool, true, false, Option, None, List, [], ◌∷◌, ◌++◌, refl, sym, ap, ◌∙◌, subst, if◌then◌else◌, ◌&&◌}
 use Rattle.proof_machines.proofs.net.Words.{◌==◌, has, packets, processed, Sys, IsSys, inst_step, at_node, none_mine, done_u, GlobalAll, unit_share, Any, Old}
-use Rattle.proof_machines.proofs.net.Words.{New, ShareMsg, Shared_on, S_sync, olds, Sharing, IsSharing, OpenShare, WantShare, member_step, WholeWorld}
-use Rattle.proof_machines.proofs.net.Words.{whole_inst, moves_of, ran_of, SeeingShare, same_unit, Unit, Grows}
+use Rattle.proof_machines.proofs.net.Words.{New, ShareMsg, Shared_on, olds, Sharing, IsSharing, OpenShare, ShareAsked, member_step, WholeWorld, whole_inst}
+use Rattle.proof_machines.proofs.net.Words.{moves_of, ran_of, SeeingShare, same_unit, Unit, Grows}
 use Rattle.std.proofs.lemmas.List.{append_cancel_left}
 use Rattle.proof_machines.proofs.share.Places.{At_places}
 use Rattle.proof_machines.proofs.net.Readings.{fold}
@@ -53,11 +53,11 @@ module _ {R : Type 0} (S : Sys R) (A : Sharing S) (laws : IsSys S) where
     none_ran : (es : List OpenShare) (live standby : S.B.T) (m : ShareMsg R) → NoShare S u es m → none_mine S u (member_step S A live standby m).ran ≡ []
     none_ran es live standby (Shared_on n true p) off = rw off refl
     none_ran es live standby (Shared_on n false p) off = rw off refl
-    none_ran es live standby (S_sync n true cs) off = refl
-    none_ran es live standby (S_sync n false cs) off = refl
+    none_ran es live standby (ShareMsg.Sync n true cs) off = refl
+    none_ran es live standby (ShareMsg.Sync n false cs) off = refl
     none_ran es live standby m off = refl
 
-    under_placed : (ok : IsSharing S A) (w : WholeWorld S A) (x : WantShare) (before since : List ℕ) → GlobalAll S A w
+    under_placed : (ok : IsSharing S A) (w : WholeWorld S A) (x : ShareAsked) (before since : List ℕ) → GlobalAll S A w
         → Under S A (seeing S A u x) w before since → (p y : ℕ) (m : Any R) (rest : List (Any R)) → (y == 0) ≡ false → (y == 1) ≡ false
         → w.link p y ≡ m ∷ rest → At_places (unit_share S A (seeing S A u x)) (ran_of S A u (at_node y (ran_by w y m)))
     under_placed ok w x before since g h p y m rest y0 y1 waits = placed_by m (grown (seeing S A u x) w (whole_inst S A w p y m) before since before since h
@@ -73,7 +73,7 @@ module _ {R : Type 0} (S : Sys R) (A : Sharing S) (laws : IsSys S) where
         placed_by (Old m) r = by_lists (inst_step S (w.inst y) m).ran r
         placed_by (New m) r = by_lists (member_step S A (w.inst y).live (w.standby y) m).ran r
 
-    under_processes : (ok : IsSharing S A) (w : WholeWorld S A) (x : WantShare) (before since : List ℕ) → GlobalAll S A w
+    under_processes : (ok : IsSharing S A) (w : WholeWorld S A) (x : ShareAsked) (before since : List ℕ) → GlobalAll S A w
         → Under S A (seeing S A u x) w before since → (p y : ℕ) (m : Any R) (rest : List (Any R)) → (y == 0) ≡ false → (y == 1) ≡ false
         → w.link p y ≡ m ∷ rest → none_mine S u (ran_by w y m) ≢ [] → Processes w u y (ran_by w y m)
     under_processes ok w x before since g h p y (Old m) rest y0 y1 waits some =

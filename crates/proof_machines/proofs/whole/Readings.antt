@@ -1,8 +1,8 @@
 -- What is read off where a unit is in the whole world: its done packets and those that wait are all that came, in order unless a move without a
 -- buffer took it; and its records.
-use Rattle.proof_machines.proofs.net.Words.{◌≡◌, ℕ, true, false, Option, Some, None, List, ◌++◌, ap, ◌∙◌, ◌==◌, times, exactly, has, runs}
-use Rattle.proof_machines.proofs.net.Words.{path, shape, IsFront, Lacks, self, Sys, IsSys, done_u, GlobalAll, unit_share, as_share, WantShare, Sharing}
-use Rattle.proof_machines.proofs.net.Words.{OpenShare, find_share, WholeWorld, moves_of, ran_of, SeeingShare, Unit, same_of}
+use Rattle.proof_machines.proofs.net.Words.{◌≡◌, ℕ, true, false, Option, Some, None, List, ◌++◌, ap, ◌∙◌, ◌==◌, times, exactly, has, runs, path, shape, IsFront}
+use Rattle.proof_machines.proofs.net.Words.{Lacks, self, Sys, IsSys, done_u, GlobalAll, unit_share, as_share, ShareAsked, Sharing, OpenShare, find_share}
+use Rattle.proof_machines.proofs.net.Words.{WholeWorld, moves_of, ran_of, SeeingShare, Unit, same_of}
 use Rattle.proof_machines.proofs.share.Share.{Ran}
 use Rattle.proof_machines.proofs.net.Readings.{fold, not_both, In_order, order_of, RecordOf, record_of}
 use Rattle.proof_machines.proofs.net.Under.{Under}
@@ -53,7 +53,7 @@ module _ {R : Type 0} (S : Sys R) (A : Sharing S) (laws : IsSys S) (u : Unit) wh
     By_share : (e : OpenShare) → SharedRecords w e → RecordsAll w
 
   -- as the controller has its share
-  abbrev pub its_share : (w : WholeWorld S A) (x : WantShare) (before since : List ℕ) → Under S A (seeing S A u x) w before since → OpenShare
+  abbrev pub its_share : (w : WholeWorld S A) (x : ShareAsked) (before since : List ℕ) → Under S A (seeing S A u x) w before since → OpenShare
   its_share w x before since h = let v = shape (unit_share S A (seeing S A u x)) h.stage in as_share S A (seeing S A u x) v.phase v.queue
 
   pub records_all : (w : WholeWorld S A) (k : Came) → GlobalAll S A w → WhereAll S A laws u w k → RecordsAll w

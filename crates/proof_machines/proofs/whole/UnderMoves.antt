@@ -1,8 +1,8 @@
 -- What moves have of a unit under a share: nothing. No open move takes it, keeps a record or a packet of it, and no message of a move has one. So a
 -- unit that an open move takes, and that of an event, is apart from shares.
-use Rattle.proof_machines.proofs.net.Words.{◌≡◌, ℕ, true, false, Some, List, [], ◌∷◌, refl, sym, ◌∙◌, subst, ◌&&◌, ◌==◌, Chunks}
-use Rattle.proof_machines.proofs.net.Words.{M_event, M_put_no, M_install, Each, Filter, Msg, Mv, Sys, IsSys, Open, find_op}
-use Rattle.proof_machines.proofs.net.Words.{RestOp, NothingOf, none_mine, Any, Old, olds, Sharing, WholeWorld, moves_of, SeeingShare, Answer, same_unit, Unit}
+use Rattle.proof_machines.proofs.net.Words.{◌≡◌, ℕ, true, false, Some, List, [], ◌∷◌, refl, sym, ◌∙◌, subst, ◌&&◌, ◌==◌, Chunks, MoveMsg, Each, Filter, Msg}
+use Rattle.proof_machines.proofs.net.Words.{Of_move, Sys, IsSys, Open, find_op, RestOp, NothingOf, none_mine, Any, Old, olds, Sharing, WholeWorld, moves_of}
+use Rattle.proof_machines.proofs.net.Words.{SeeingShare, Answer, same_unit, Unit}
 use Rattle.proof_machines.proofs.net.Ctrl.{each_found}
 use Rattle.proof_machines.proofs.net.Copies.{has, copies, has_none, copies_none}
 use Rattle.proof_machines.proofs.net.Under.{Under}
@@ -32,15 +32,17 @@ module _ {R : Type 0} (S : Sys R) (A : Sharing S) (z : SeeingShare) (w : WholeWo
   to_controller : (i : ℕ) → (i == 0) && (1 == 0) ≡ false
   to_controller i = elim (i == 0) as (λ b. b && false ≡ false) [ true ↦ refl | false ↦ refl ]
 
-  pub none_back : (i n : ℕ) (g : Filter) (why : Answer) (cs : Chunks R) (rest : List (Any R)) → w.link i 1 ≡ Old (Mv g (M_put_no n why cs)) ∷ rest
+  pub none_back : (i n : ℕ) (g : Filter) (why : Answer) (cs : Chunks R) (rest : List (Any R)) → w.link i 1 ≡ Old (Of_move g (MoveMsg.Put_no n why cs)) ∷ rest
       → has z.unit cs ≡ 0
-  none_back i n g why cs rest waits = has_none z.unit cs (head_label i 1 (to_controller i) (Mv g (M_put_no n why cs)) rest waits).1
+  none_back i n g why cs rest waits = has_none z.unit cs (head_label i 1 (to_controller i) (Of_move g (MoveMsg.Put_no n why cs)) rest waits).1
 
-  pub no_event : (i n p : ℕ) (g : Filter) (rest : List (Any R)) → w.link i 1 ≡ Old (Mv g (M_event n p)) ∷ rest → same_unit (S.packet_unit p) z.unit ≡ false
-  no_event i n p g rest waits = (head_label i 1 (to_controller i) (Mv g (M_event n p)) rest waits).1
+  pub no_event : (i n p : ℕ) (g : Filter) (rest : List (Any R)) → w.link i 1 ≡ Old (Of_move g (MoveMsg.Event n p)) ∷ rest → same_unit (S.packet_unit p) z.unit
+      ≡ false
+  no_event i n p g rest waits = (head_label i 1 (to_controller i) (Of_move g (MoveMsg.Event n p)) rest waits).1
 
-  pub no_change : (n from to : ℕ) (g : Filter) (rest : List (Any R)) → w.link 1 0 ≡ Old (Mv g (M_install n from to)) ∷ rest → S.takes g z.unit ≡ false
-  no_change n from to g rest waits = (head_label 1 0 refl (Mv g (M_install n from to)) rest waits).1
+  pub no_change : (n from to : ℕ) (g : Filter) (rest : List (Any R)) → w.link 1 0 ≡ Old (Of_move g (MoveMsg.Install n from to)) ∷ rest → S.takes g z.unit
+      ≡ false
+  no_change n from to g rest waits = (head_label 1 0 refl (Of_move g (MoveMsg.Install n from to)) rest waits).1
 
 module _ {R : Type 0} (S : Sys R) (A : Sharing S) (laws : IsSys S) (u : Unit) (w : WholeWorld S A) (k : Came) where
   -- as moves know it

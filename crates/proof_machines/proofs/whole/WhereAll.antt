@@ -3,9 +3,9 @@
 use Rattle.proof_machines.proofs.net.Words.{◌≡◌, ℕ, ◌+◌, ◌≤◌, Bool, true, false, Some, List, [], ◌∷◌, ◌++◌, refl, sym, ap, ◌∙◌, subst, append-nil, arith}
 use Rattle.proof_machines.proofs.net.Words.{if◌then◌else◌, ◌&&◌, ◌==◌, nat_tests, Decides-eqb, firsts, times, IsOrderedAs, Each, shape, Filter, Msg, Asked}
 use Rattle.proof_machines.proofs.net.Words.{MoveAsked, Sys, IsSys, sw_target, sw_next, OpLabel, Rest, NothingOf, Disjoint, TakesSome, GlobalAll, unit_share}
-use Rattle.proof_machines.proofs.net.Words.{as_share, Any, Old, New, S_asked, WantShare, olds, Sharing, IsSharing, OpenShare, find_share, WholeWorld, moves_of}
-use Rattle.proof_machines.proofs.net.Words.{whole_inst, whole_ctrl, whole_switch, whole_input, asks, begin_move, begin_share, puts_get, keeps, meets_shares}
-use Rattle.proof_machines.proofs.net.Words.{MayShare, SeeingShare, same_unit, either_way, Unit, split}
+use Rattle.proof_machines.proofs.net.Words.{as_share, Any, Old, New, ShareMsg, ShareAsked, olds, Sharing, IsSharing, OpenShare, find_share, WholeWorld}
+use Rattle.proof_machines.proofs.net.Words.{moves_of, whole_inst, whole_ctrl, whole_switch, whole_input, asks, begin_move, begin_share, puts_get, keeps}
+use Rattle.proof_machines.proofs.net.Words.{meets_shares, MayShare, SeeingShare, same_unit, either_way, Unit, split}
 use Rattle.proof_machines.proofs.unit.Loose.{times-append}
 use Rattle.proof_machines.proofs.net.Ctrl.{each_found}
 use Rattle.proof_machines.proofs.net.Units.{Where, Where.At_rest, Where.In_move, May, see, switch_where}
@@ -50,7 +50,7 @@ module _ {R : Type 0} (S : Sys R) (A : Sharing S) (laws : IsSys S) (u : Unit) wh
   -- under a share `b` says whether a loose move once handed the unit on: a share never does
   pub data WhereAll (w : WholeWorld S A) (k : Came) : Type 0 where
     Apart_from_shares : Unshared S A laws u w k.all k.bared → k.diverted ≡ [] → WhereAll w k
-    Under_share : (x : WantShare) (before : List ℕ) (b : Bool) → Under S A (seeing S A u x) w before k.diverted → IsOrderedAs b (before ++ k.diverted) k.all
+    Under_share : (x : ShareAsked) (before : List ℕ) (b : Bool) → Under S A (seeing S A u x) w before k.diverted → IsOrderedAs b (before ++ k.diverted) k.all
         → (b ≡ true → k.bared ≡ true) → WhereAll w k
 
   -- a unit whose packets go to the controller is taken by a share
@@ -147,7 +147,7 @@ module _ {R : Type 0} (S : Sys R) (A : Sharing S) (laws : IsSys S) (u : Unit) wh
   asks_move_all w k g x (Apart_from_shares h none) = Apart_from_shares (asks_move_unshared S A laws u w k.all k.bared g x h) none
   asks_move_all w k g x (Under_share y before b h o f) = Under_share y before b (under_asks_move S A (seeing S A u y) w before k.diverted h x).under o f
 
-  pub asks_share_all : (w : WholeWorld S A) (k : Came) (x : WantShare) → WhereAll w k → WhereAll (asks S A w (New (S_asked x))) k
+  pub asks_share_all : (w : WholeWorld S A) (k : Came) (x : ShareAsked) → WhereAll w k → WhereAll (asks S A w (New (ShareMsg.Asked x))) k
   asks_share_all w k x (Apart_from_shares h none) = Apart_from_shares (asks_share_unshared S A laws u w k.all k.bared x h) none
   asks_share_all w k x (Under_share y before b h o f) = Under_share y before b (under_asks_share S A (seeing S A u y) w before k.diverted h x).under o f
 
@@ -162,10 +162,10 @@ module _ {R : Type 0} (S : Sys R) (A : Sharing S) (laws : IsSys S) (u : Unit) wh
       (same (found_takes S w.shares x.num (as_share S A z v.phase v.queue) u h.holds.share h.covered))).under o f
 
   -- A share begins. Records that stand by of a unit that it takes are folds of fronts of what was done
-  abbrev pub HasFronts : WholeWorld S A → WantShare → Type 0
+  abbrev pub HasFronts : WholeWorld S A → ShareAsked → Type 0
   HasFronts w x = S.takes x.filter u ≡ true → (k : ℕ) → FrontBy S A u w k
 
-  module _ (ok : IsSharing S A) (w : WholeWorld S A) (k : Came) (g : GlobalAll S A w) (x : WantShare) (may : MayShare S A w x) where
+  module _ (ok : IsSharing S A) (w : WholeWorld S A) (k : Came) (g : GlobalAll S A w) (x : ShareAsked) (may : MayShare S A w x) where
     elsewhere : (S.takes x.filter u ≡ true → (x.home == w.target u) ≡ false) → Unshared S A laws u w k.all k.bared → k.diverted ≡ []
         → WhereAll (begin_share S A w x) k
     elsewhere away h none = Apart_from_shares (share_unshared S A laws u w k.all k.bared g x may.fresh away h) none

@@ -3,8 +3,8 @@ use Rattle.proof_outlines.proofs.Words.{◌≡◌, ℕ, suc, ◌<◌, ◌≤◌,
 use Rattle.proof_outlines.proofs.Words.{arith, if◌then◌else◌, ◌&&◌, ◌==◌, nat_lt, is_some, option_map, filter_map, nat_tests, Decides-ltb, and_parts, not-true}
 use Rattle.proof_outlines.proofs.Words.{Filter, Semantics, Answer, Command, Order, switch_node, instance_node, SharePlan, Operation, Share, lowest_meeting}
 use Rattle.proof_outlines.proofs.Words.{ControllerState, Step, still, refusal, move_between, copy_between, share_begin, begin_step, decision_step, on_asked}
-use Rattle.proof_outlines.proofs.Words.{has_twice, place_of, sent_for, Each, behind, Rising, Any, New, S_asked, S_install, WantShare, new_share, WholeWorld}
-use Rattle.proof_outlines.proofs.Words.{whole_ctrl, begin_share, MayShare, ctrl_every_all, share_every_all, by_if, Msg, IsDistinct}
+use Rattle.proof_outlines.proofs.Words.{has_twice, place_of, sent_for, Each, behind, Rising, Any, New, ShareMsg, ShareAsked, new_share, WholeWorld, whole_ctrl}
+use Rattle.proof_outlines.proofs.Words.{begin_share, MayShare, ctrl_every_all, share_every_all, by_if, Msg, IsDistinct}
 use Rattle.std.specs.FinMap as finite
 use Rattle.copy_share.specs.Share as share
 use Rattle.proof_outlines.proofs.joined.Words.{is_whole, is_sys, outline_all, asked_of, with_member, members_of, share_between, want_share_of, is_sharing}
@@ -46,11 +46,11 @@ module _ {F R : Type 0} (f : Semantics R) (g : Given) (n : ℕ) (x : Scene F f g
     once : has_twice (name ∷ others) ≡ false
     once = not-true (has_twice (name ∷ others)) members_fine.1
 
-    abbrev its : WantShare
+    abbrev its : ShareAsked
     its = record { num = cmd.op; home = instance_node known.home; members = instance_node known.home ∷ known.nodes; filter = filter }
 
     abbrev its_message : Any R
-    its_message = New (S_asked its)
+    its_message = New (ShareMsg.Asked its)
 
     nodes_are : members_of (place g) (name ∷ others) ≡ Some its.members
     nodes_are = ap (λ o. with_member o (members_of (place g) others)) known.at ∙ ap (with_member (Some known.home)) known.members
@@ -59,7 +59,7 @@ module _ {F R : Type 0} (f : Semantics R) (g : Given) (n : ℕ) (x : Scene F f g
     wanted = ap (share_between cmd.op filter) nodes_are
 
     seen : shown f g (Msg.Asked cmd) ≡ Some its_message
-    seen = ap (asked_of f (place g) cmd.op) what ∙ ap (option_map (λ w. New (S_asked w))) wanted
+    seen = ap (asked_of f (place g) cmd.op) what ∙ ap (option_map (λ w. New (ShareMsg.Asked w))) wanted
 
     -- the plan, and the step by which it begins
     abbrev members : List ℕ
@@ -112,12 +112,12 @@ module _ {F R : Type 0} (f : Semantics R) (g : Given) (n : ℕ) (x : Scene F f g
     followed : StepFollows f g.site g.packet (place g) did (record {
       ops = x.world.ops;
       shares = x.world.shares ++ new_share its ∷ [];
-      sends = (0, New (S_install cmd.op filter (instance_node known.home))) ∷ [];
+      sends = (0, New (ShareMsg.Install cmd.op filter (instance_node known.home))) ∷ [];
     })
     followed = subst (λ step. StepFollows f g.site g.packet (place g) step (record {
       ops = x.world.ops;
       shares = x.world.shares ++ new_share its ∷ [];
-      sends = (0, New (S_install cmd.op filter (instance_node known.home))) ∷ [];
+      sends = (0, New (ShareMsg.Install cmd.op filter (instance_node known.home))) ∷ [];
     })) did_is
         (share_begun f g.site g.packet (place g) c x.world.ops x.world.shares are.controller.opens cmd.op none (are.controller.emptied cmd.op none)
         (name ∷ others) filter its (ap place_of are.controller.names) are.controller.site wanted)
@@ -134,7 +134,7 @@ module _ {F R : Type 0} (f : Semantics R) (g : Given) (n : ℕ) (x : Scene F f g
       next = after.next;
       link = after.link;
       links = λ i j. link_same f g n x p cmd are is (i == 1) (behind ((i == p) && (j == 1)) (x.world.link i j))
-          (if i == 1 then sent_for j ((0, New (S_install cmd.op filter (instance_node known.home))) ∷ []) else [])
+          (if i == 1 then sent_for j ((0, New (ShareMsg.Install cmd.op filter (instance_node known.home))) ∷ []) else [])
           ∙ sym (ap (λ o. links_by f g o x.world.link p (outline_all f (place g) did.sends) i j) seen);
       labels = (
         (

@@ -4,9 +4,9 @@ use Rattle.proof_outlines.proofs.Words.{append-nil, arith, if◌then◌else◌, 
 use Rattle.proof_outlines.proofs.Words.{and_parts, Filter, meets, Semantics, stored_of, Answer, Command, Order, Msg, instance_node, MovePlan, move_at_start}
 use Rattle.proof_outlines.proofs.Words.{CopyPlan, Operation, Move, Copy, Share, lowest_meeting, meets_operation, ControllerState, Step, still, refusal}
 use Rattle.proof_outlines.proofs.Words.{unknown_name, overlap, answers, move_begin, copy_begin, place_of, EachSent, sent_for, Each, each-append, MoveAsked}
-use Rattle.proof_outlines.proofs.Words.{Open, new_op, begin_sends, meets_any, behind, links_after, Rising, AreNumbersApart, Any, Old, New, S_asked, S_get}
-use Rattle.proof_outlines.proofs.Words.{WantShare, OpenShare, find_share, WholeWorld, moves_of, as_old, whole_ctrl, begin_move, puts_get, meets_shares}
-use Rattle.proof_outlines.proofs.Words.{ctrl_every_all, move_every_all, get_every_all, split}
+use Rattle.proof_outlines.proofs.Words.{Open, new_op, begin_sends, meets_any, behind, links_after, Rising, AreNumbersApart, Any, Old, New, ShareMsg, ShareAsked}
+use Rattle.proof_outlines.proofs.Words.{OpenShare, find_share, WholeWorld, moves_of, as_old, whole_ctrl, begin_move, puts_get, meets_shares, ctrl_every_all}
+use Rattle.proof_outlines.proofs.Words.{move_every_all, get_every_all, split}
 use Rattle.std.specs.FinMap as finite
 use Rattle.copy_share.specs.Copy as copy
 use Rattle.proof_machines.proofs.net.Net as net
@@ -140,9 +140,9 @@ module _ {F R : Type 0} (f : Semantics R) (g : Given) (n : ℕ) (x : Scene F f g
   old_idle None a e = cc
   old_idle (Some w) a e = let same : Old (net.Asked w) ≡ a = cc in subst Stays same refl
 
-  new_idle : (o : Option WantShare) (a : Any R) → option_map (λ w. New (S_asked w)) o ≡ Some a → Stays a
+  new_idle : (o : Option ShareAsked) (a : Any R) → option_map (λ w. New (ShareMsg.Asked w)) o ≡ Some a → Stays a
   new_idle None a e = cc
-  new_idle (Some w) a e = let same : New (S_asked w) ≡ a = cc in subst Stays same refl
+  new_idle (Some w) a e = let same : New (ShareMsg.Asked w) ≡ a = cc in subst Stays same refl
 
   asked_idle : (what : Order) (a : Any R) → asked_of f (place g) cmd.op what ≡ Some a → Stays a
   asked_idle (Order.Share members filter) a e = new_idle (want_share_of (place g) cmd.op (Order.Share members filter)) a e
@@ -342,7 +342,7 @@ module _ {F R : Type 0} (f : Semantics R) (g : Given) (n : ℕ) (x : Scene F f g
       rising = subst (λ l. Rising (suc cmd.op) (asked_nums l ++ commands f g x.input)) (sym (append-nil (x.world.link 0 1))) next.later;
     }
       where
-        sends : outline_all f (place g) (copy_begin c copy_plan).sends ≡ (instance_node from, New (S_get cmd.op flt)) ∷ []
+        sends : outline_all f (place g) (copy_begin c copy_plan).sends ≡ (instance_node from, New (ShareMsg.Get cmd.op flt)) ∷ []
         sends = rw e refl
 
         is_whole_one : is_whole f.kind flt ≡ true

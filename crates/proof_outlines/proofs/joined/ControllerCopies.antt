@@ -2,7 +2,7 @@
 -- share looks at either.
 use Rattle.proof_outlines.proofs.Words.{◌≡◌, ℕ, true, cond, Option, Some, None, List, [], refl, sym, ap, ◌∙◌, subst, arith, ◌==◌, option_map, nat_tests}
 use Rattle.proof_outlines.proofs.Words.{same_Some, Chunk, Semantics, stored_of, Msg, instance_node, Keeping, CopyState, ShareState, Operation, Move, Copy}
-use Rattle.proof_outlines.proofs.Words.{Share, turn_of, ControllerState, Step, still, takes_turn, hand_step, Any, New, S_chunks, find_share, Has_chunks}
+use Rattle.proof_outlines.proofs.Words.{Share, turn_of, ControllerState, Step, still, takes_turn, hand_step, Any, New, ShareMsg, find_share, Has_chunks}
 use Rattle.proof_outlines.proofs.Words.{by_share}
 use Rattle.std.specs.FinMap as finite
 use Rattle.proof_outlines.proofs.joined.Words.{entries, CopyTurn, Idle, Hands, Hands_all, Ends, hands, ends, is_copied, copy_turn, move_idle, got_insert}
@@ -155,7 +155,7 @@ module _ {F R : Type 0} (f : Semantics R) (g : Given) (n : ℕ) (x : Scene F f g
       → RowLeads f g x p (Msg.Chunks op chunks) (hand_step C op p (Msg.Chunks op chunks))
   chunks_leads chunks is =
       let m = Msg.Chunks op chunks in
-      let a : Any R = New (S_chunks op (entries f chunks)) in
+      let a : Any R = New (ShareMsg.Chunks op (entries f chunks)) in
       copied_leads f g n x p m are is op refl is.label.1
       (λ none b e. subst (Idles f g n x p m are is) (same_Some _ _ e) (ap (λ o. joins f g.site g.packet (place g) (record { ops = x.world.ops; sends = [] })
       (by_share (S f g) (A f g) x.world.shares p (option_map (λ y. (y, Has_chunks (entries f chunks))) o))) none))

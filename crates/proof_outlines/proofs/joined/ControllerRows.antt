@@ -1,9 +1,9 @@
 -- A controller of a run is one after a row of an open move.
 use Rattle.proof_outlines.proofs.Words.{not, ◌≡◌, ℕ, ◌+◌, ◌<◌, ◌≤◌, true, false, cond, Option, Some, None, List, [], ◌∷◌, map, refl, sym, ap, ◌∙◌, subst, arith}
 use Rattle.proof_outlines.proofs.Words.{if◌then◌else◌, ◌==◌, unwrap_or, nat_tests, Decides-eqb, Semantics, stored_of, Answer, Piece, switch_node, Door, Phase}
-use Rattle.proof_outlines.proofs.Words.{MoveState, MoveRow, answer_of, chunks_of, Move, Turn, turn_of_move, ControllerState, Step, after_turn, RPhase, Each}
-use Rattle.proof_outlines.proofs.Words.{each_map, EachSent, Open, close_op, set_op, write_op, OpenShare, have, copies, spelled, sent-append}
-use Rattle.proof_outlines.proofs.Words.{either_way, split, Unit, Msg}
+use Rattle.proof_outlines.proofs.Words.{MoveState, MoveRow, answer_of, chunks_of, Move, Turn, turn_of_move, ControllerState, Step, after_turn, MovePhase, Each}
+use Rattle.proof_outlines.proofs.Words.{each_map, EachSent, Open, close_op, set_op, write_op, OpenShare, have, copies, spelled, sent-append, either_way, split}
+use Rattle.proof_outlines.proofs.Words.{Unit, Msg}
 use Rattle.std.specs.FinMap as finite
 use Rattle.move_op.specs.Phases as phase
 use Rattle.proof_outlines.proofs.joined.Words.{entries, outline_piece, filter_map-put, outline_phase, stored_after, got_insert, got_remove, OpensAll, Given}
@@ -94,7 +94,7 @@ module _ {R : Type 0} (f : Semantics R) (g : Given) where
         })
         (λ off. record { move = l.move; there = open_alike.operations e.op.num off ∙ l.there; filter = l.filter })
 
-    listed_open : (rp : RPhase R) (fs : List ℕ) → Each (IsListed f g (did None).node) (set_op n rp fs ops)
+    listed_open : (rp : MovePhase R) (fs : List ℕ) → Each (IsListed f g (did None).node) (set_op n rp fs ops)
     listed_open rp fs = each-change _ (IsListed f g (did None).node) n (written rp fs)
         (λ e _ l. record { move = l.move; there = l.there; filter = l.filter }) ops
         (each_map {P = (IsListed f g c)} {Q = (IsListed f g (did None).node)} listed_at ops is.listed)
@@ -103,7 +103,7 @@ module _ {R : Type 0} (f : Semantics R) (g : Given) where
     listed_closed why = each_left (IsListed f g c) (IsListed f g (did (Some why)).node) n ops
         (λ e off l. record { move = l.move; there = other_closed why e.op.num off ∙ l.there; filter = l.filter }) is.listed
 
-    open_is : (rp : RPhase R) (fs : List ℕ) → answer_of real_row.next.phase ≡ None → OpensAll f (place g) g.site (set_op n rp fs ops) shares (did None).node
+    open_is : (rp : MovePhase R) (fs : List ℕ) → answer_of real_row.next.phase ≡ None → OpensAll f (place g) g.site (set_op n rp fs ops) shares (did None).node
         → IsController f g (did None).node (set_op n rp fs ops) shares next
     open_is rp fs goes_on opens =
         let got : finite.get (did None).node.operations n ≡ Some (Move after) = get_open n
@@ -122,11 +122,11 @@ module _ {R : Type 0} (f : Semantics R) (g : Given) where
         changed f g c (did (Some why)).node ops shares next next n is (closed_alike why) (omega arith) own later (close_op n ops) shares opens
         (listed_closed why)
 
-    pub controller_after : (ph : Phase) (rp : RPhase R) (fs : List ℕ) → ph ≡ real_row.next.phase
+    pub controller_after : (ph : Phase) (rp : MovePhase R) (fs : List ℕ) → ph ≡ real_row.next.phase
         → rp ≡ outline_phase f (place g) ph → OpensAll f (place g) g.site (write_op n rp fs ops) shares (did (answer_of ph)).node
         → IsController f g (did (answer_of ph)).node (write_op n rp fs ops) shares next
-    controller_after (phase.Streaming fz fr last d) rp fs own e =
-        rw e (open_is (outline_phase f (place g) (phase.Streaming fz fr last d)) fs (ap answer_of (sym own)))
+    controller_after (phase.Streaming to_remove removed last d) rp fs own e =
+        rw e (open_is (outline_phase f (place g) (phase.Streaming to_remove removed last d)) fs (ap answer_of (sym own)))
     controller_after (phase.Over why) rp fs own e = rw e (closed_is why (ends why (ap answer_of (sym own))))
     controller_after ph rp fs own e = rw e (open_is (outline_phase f (place g) ph) fs (ap answer_of (sym own)))
 
@@ -139,9 +139,11 @@ module _ {R : Type 0} (f : Semantics R) (g : Given) where
 
   -- how often a unit stands among the chunks that a move keeps
   pub kept_count : (ph : Phase) → HasPieces f g ph → (u : Unit) → times u (entries f (kept_in ph)) ≡ copies u (outline_phase f (place g) ph)
-  kept_count (phase.Streaming fz fr came d) h u = ap (times u) (filter_map-put (spelled f) (chunks_of fz) (chunks_of fr)) ∙ times-append u
-      (entries f (chunks_of fz)) (entries f (chunks_of fr)) ∙ ap (λ k. k + times u (entries f (chunks_of fr))) (times_chunks f g fz (good_chunks fz h.0) u)
-      ∙ ap (λ k. have u (map (outline_piece f) fz) + k) (times_chunks f g fr (free_chunks d fr h.1) u)
+  kept_count (phase.Streaming to_remove removed came d) h u = ap (times u) (filter_map-put (spelled f) (chunks_of to_remove) (chunks_of removed))
+      ∙ times-append u
+      (entries f (chunks_of to_remove)) (entries f (chunks_of removed))
+      ∙ ap (λ k. k + times u (entries f (chunks_of removed))) (times_chunks f g to_remove (good_chunks to_remove h.0) u)
+      ∙ ap (λ k. have u (map (outline_piece f) to_remove) + k) (times_chunks f g removed (free_chunks d removed h.1) u)
   kept_count ph h u = refl
 
   pub turn_labels : (c : ControllerState) (n : ℕ) (t : Turn) (a : Option Answer) → EachSent (Label f g) 1 t.sends

@@ -2,7 +2,7 @@
 -- a row changes nothing of it.
 use Rattle.proof_outlines.proofs.Words.{◌≡◌, ◌≢◌, ℕ, zero, suc, Bool, true, false, Option, Some, None, List, [], ◌∷◌, ◌++◌, refl, sym, ap, ◌∙◌, subst}
 use Rattle.proof_outlines.proofs.Words.{append-nil, arith, if◌then◌else◌, ◌&&◌, ◌==◌, nat_tests, Semantics, stored_of, Each, Msg, Note, ControllerState, Step}
-use Rattle.proof_outlines.proofs.Words.{step_and_finish, may_finish, EachSent, sent_for, Open, find_op, behind, links_after, Any, Old, New, S_asked, OpenShare}
+use Rattle.proof_outlines.proofs.Words.{step_and_finish, may_finish, EachSent, sent_for, Open, find_op, behind, links_after, Any, Old, New, ShareMsg, OpenShare}
 use Rattle.proof_outlines.proofs.Words.{find_share, WholeWorld, Rising, rising_less, EveryAll, ctrl_every_all, as_node, Controller, arrivals_in, dones_in}
 use Rattle.proof_outlines.proofs.Words.{installs_in, sent-append, done-append, split}
 use Rattle.std.specs.FinMap as finite
@@ -15,7 +15,7 @@ use Rattle.proof_outlines.proofs.joined.LogLemmas.{every_same, owners_on, came_o
 -- a message is taken from the switch's link, or from another: the numbers of waiting commands rise as before
 rising_drop : {R : Type 0} (b : ℕ) (a : Any R) (rest : List (Any R)) (ks : List ℕ) → Rising b (asked_nums (a ∷ rest) ++ ks) → Rising b (asked_nums rest ++ ks)
 rising_drop b (Old (net.Asked x)) rest ks h = let least = h.0 in rising_less b (suc x.num) (asked_nums rest ++ ks) (omega (arith, least)) h.1
-rising_drop b (New (S_asked x)) rest ks h = let least = h.0 in rising_less b (suc x.num) (asked_nums rest ++ ks) (omega (arith, least)) h.1
+rising_drop b (New (ShareMsg.Asked x)) rest ks h = let least = h.0 in rising_less b (suc x.num) (asked_nums rest ++ ks) (omega (arith, least)) h.1
 rising_drop b a rest ks h = h
 
 pub rising_behind : {R : Type 0} (b : ℕ) (t : Bool) (l rest : List (Any R)) (a : Any R) (ks : List ℕ) → (t ≡ true → l ≡ a ∷ rest)

@@ -1,6 +1,6 @@
 -- The controller's step on a message of a run leads from a world of a run to one.
 use Rattle.proof_outlines.proofs.Words.{ℕ, true, Option, Some, None, refl, arith, ◌==◌, Semantics, stored_of, Msg, switch_node, ControllerState, still}
-use Rattle.proof_outlines.proofs.Words.{instance_at, on_final, each_map, node_step, by_if, FunctionLaws}
+use Rattle.proof_outlines.proofs.Words.{instance_at, on_final, each_map, node_step, by_if, FunctionLaws, MoveMsg}
 use Rattle.ctrl_node.specs.Controller.{row}
 use Rattle.proof_machines.proofs.unit.Real as real
 use Rattle.proof_outlines.proofs.joined.Words.{outline_piece, IsChunk, enabled_row, piece_row, deleted_row, put_ok_row, restored_row, Given, place, Scene}
@@ -38,16 +38,16 @@ module _ {F R : Type 0} (f : Semantics R) (g : Given) (n : ℕ) (x : Scene F f g
   row_leads Msg.Final is next = final_leads is (instance_at c p)
   row_leads (Msg.Event op cell) is next = event_leads f g n x p op cell are is
   row_leads (Msg.PutNo op refused) is next = put_no_leads f g n x p op refused are is
-  row_leads (Msg.Enabled op) is next = numbered_leads f g n x p (Msg.Enabled op) are is op (real.M_enabled op) refl refl refl refl refl (λ s. refl)
+  row_leads (Msg.Enabled op) is next = numbered_leads f g n x p (Msg.Enabled op) are is op (MoveMsg.Enabled op) refl refl refl refl refl (λ s. refl)
       (λ mv h. enabled_row f (place g) mv.plan mv.phase (stored_of c.store op) p op)
-  row_leads (Msg.Piece op piece) is next = numbered_leads f g n x p (Msg.Piece op piece) are is op (real.M_piece op (outline_piece f piece))
+  row_leads (Msg.Piece op piece) is next = numbered_leads f g n x p (Msg.Piece op piece) are is op (MoveMsg.Piece op (outline_piece f piece))
       refl refl refl refl refl (λ s. refl) (λ mv h. piece_row f (place g) mv.plan mv.phase (stored_of c.store op) p op piece
       (each_map {P = (IsGoodChunk f g)} {Q = (IsChunk f (place g))} (λ y k. k.chunk) piece.chunks is.label.1.good.each))
-  row_leads (Msg.Deleted op) is next = numbered_leads f g n x p (Msg.Deleted op) are is op (real.M_deleted op) refl refl refl refl refl (λ s. refl)
+  row_leads (Msg.Deleted op) is next = numbered_leads f g n x p (Msg.Deleted op) are is op (MoveMsg.Deleted op) refl refl refl refl refl (λ s. refl)
       (λ mv h. deleted_row f (place g) mv.plan mv.phase (stored_of c.store op) p op)
-  row_leads (Msg.PutOk op) is next = numbered_leads f g n x p (Msg.PutOk op) are is op (real.M_put_ok op) refl refl refl refl refl (λ s. refl)
+  row_leads (Msg.PutOk op) is next = numbered_leads f g n x p (Msg.PutOk op) are is op (MoveMsg.Put_ok op) refl refl refl refl refl (λ s. refl)
       (λ mv h. put_ok_row f (place g) mv.plan mv.phase (stored_of c.store op) p op)
-  row_leads (Msg.Restored op) is next = numbered_leads f g n x p (Msg.Restored op) are is op (real.M_restored op) refl refl refl refl refl (λ s. refl)
+  row_leads (Msg.Restored op) is next = numbered_leads f g n x p (Msg.Restored op) are is op (MoveMsg.Restored op) refl refl refl refl refl (λ s. refl)
       (λ mv h. restored_row f (place g) mv.plan mv.phase (stored_of c.store op) p op)
   row_leads (Msg.Fenced op) is next = fenced_leads f g n x p are op is
   row_leads (Msg.Diverted cell) is next = diverted_leads f g n x p are cell is

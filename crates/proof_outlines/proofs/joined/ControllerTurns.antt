@@ -5,7 +5,7 @@ use Rattle.proof_outlines.proofs.Words.{Semantics, FullCell, stored_of, Answer, 
 use Rattle.proof_outlines.proofs.Words.{destination, from_source, from_destination, keeps, next_phase, CopyState, ShareState, Operation, Move, Copy, Share}
 use Rattle.proof_outlines.proofs.Words.{turn_of, turn_of_move, ControllerState, Step, still, after_turn, takes_turn, hand_step, instance_at, Each, Open}
 use Rattle.proof_outlines.proofs.Words.{find_op, num_of, found, numbered, each_found, Any, Old, find_share, told_by, by_share, as_old, found_num, found_each}
-use Rattle.proof_outlines.proofs.Words.{copies, either_way, Unit, Mark, split}
+use Rattle.proof_outlines.proofs.Words.{copies, either_way, Unit, Mark, split, MoveMsg}
 use Rattle.std.specs.FinMap as finite
 use Rattle.copy_share.specs.Share as share
 use Rattle.ctrl_node.specs.Controller.{on_event}
@@ -35,7 +35,7 @@ module _ {F R : Type 0} (f : Semantics R) (g : Given) (n : ℕ) (x : Scene F f g
   abbrev On : Any R → AllStep R
   On a = step_on f g n x p m are is a
 
-  abbrev ItsRow : ℕ → real.Msg R → MoveState → Type 0
+  abbrev ItsRow : ℕ → MoveMsg R → MoveState → Type 0
   ItsRow op pm mv = RowFollows f (place g) mv.plan (stored_of c.store op) (row mv (stored_of c.store op) p m)
       (net.row_of (outline_plan mv.plan) (outline_phase f (place g) mv.phase) (map number (stored_of c.store op)) p pm)
 
@@ -125,10 +125,10 @@ module _ {F R : Type 0} (f : Semantics R) (g : Given) (n : ℕ) (x : Scene F f g
       (share_handed_well f g c op s there (are.controller.shared op s there) (are.controller.genuine op) p m is.label)
 
   -- A message of moves, of a number.
-  module _ (op : ℕ) (pm : real.Msg R) (seen : shown f g m ≡ Some (Old (net.Mv net.everything pm))) (num : num_of pm ≡ Some op)
-      (untold : find_share x.world.shares op ≡ None → told_by (S f g) (A f g) x.world.shares (Old (net.Mv net.everything pm)) ≡ None) where
+  module _ (op : ℕ) (pm : MoveMsg R) (seen : shown f g m ≡ Some (Old (net.Of_move net.everything pm))) (num : num_of pm ≡ Some op)
+      (untold : find_share x.world.shares op ≡ None → told_by (S f g) (A f g) x.world.shares (Old (net.Of_move net.everything pm)) ≡ None) where
     abbrev a : Any R
-    a = Old (net.Mv net.everything pm)
+    a = Old (net.Of_move net.everything pm)
 
     -- what it does to the abstract move, and nothing to shares
     stepped : find_share x.world.shares op ≡ None → On a ≡ record {
@@ -220,16 +220,16 @@ module _ {F R : Type 0} (f : Semantics R) (g : Given) (n : ℕ) (x : Scene F f g
       row_keeps f g op mv (stored_of c.store op) p message (are.controller.moves op mv has) (are.controller.genuine op) label once
 
   -- A message that brings no chunks back, by what the whole network does with it.
-  pub told_leads : (op : ℕ) (pm : real.Msg R) → is_copied m ≡ false → shown f g m ≡ Some (Old (net.Mv net.everything pm)) → num_of pm ≡ Some op
-      → brought m ≡ [] → (find_share x.world.shares op ≡ None → told_by (S f g) (A f g) x.world.shares (Old (net.Mv net.everything pm)) ≡ None)
+  pub told_leads : (op : ℕ) (pm : MoveMsg R) → is_copied m ≡ false → shown f g m ≡ Some (Old (net.Of_move net.everything pm)) → num_of pm ≡ Some op
+      → brought m ≡ [] → (find_share x.world.shares op ≡ None → told_by (S f g) (A f g) x.world.shares (Old (net.Of_move net.everything pm)) ≡ None)
       → ((mv : MoveState) → IsMove f g op mv → ItsRow op pm mv)
-      → StepFollows f g.site g.packet (place g) (hand_step c op p m) (On (Old (net.Mv net.everything pm))) → RowLeads f g x p m (hand_step c op p m)
+      → StepFollows f g.site g.packet (place g) (hand_step c op p m) (On (Old (net.Of_move net.everything pm))) → RowLeads f g x p m (hand_step c op p m)
   told_leads op pm other seen num none untold rows step = by_operation op pm seen num untold other step (λ mv has. opened op pm seen num untold mv has step
       (rows mv (are.controller.moves op mv has)) (keeps_row op mv m has is.label (nothing_brought op mv m has none)))
 
   -- One that no share looks at.
-  pub numbered_leads : (op : ℕ) (pm : real.Msg R) → is_copied m ≡ false → shown f g m ≡ Some (Old (net.Mv net.everything pm))
-      → num_of pm ≡ Some op → brought m ≡ [] → told_by (S f g) (A f g) x.world.shares (Old (net.Mv net.everything pm)) ≡ None
+  pub numbered_leads : (op : ℕ) (pm : MoveMsg R) → is_copied m ≡ false → shown f g m ≡ Some (Old (net.Of_move net.everything pm))
+      → num_of pm ≡ Some op → brought m ≡ [] → told_by (S f g) (A f g) x.world.shares (Old (net.Of_move net.everything pm)) ≡ None
       → ((s : ShareState) → share.row s p m ≡ share.next_phase s.phase []) → ((mv : MoveState) → IsMove f g op mv → ItsRow op pm mv)
       → RowLeads f g x p m (hand_step c op p m)
   numbered_leads op pm other seen num none untold quiet rows = told_leads op pm other seen num none (λ _. untold) rows
@@ -247,9 +247,9 @@ module _ {F R : Type 0} (f : Semantics R) (g : Given) (n : ℕ) (x : Scene F f g
   back_once mv got at u =
       let b = both f g n x p (Msg.PutNo op refused) are is op mv got in
       let same : b.e.op.dst ≡ p = ap (λ o. o.dst) b.sees.op ∙ sym ((Decides-eqb p (destination mv.plan)).0 at) in
-      let comes : x.world.link b.e.op.dst 1 ≡ Old (net.Mv net.everything (real.M_put_no op refused.why (entries f refused.chunks))) ∷ is.rest =
+      let comes : x.world.link b.e.op.dst 1 ≡ Old (net.Of_move net.everything (MoveMsg.Put_no op refused.why (entries f refused.chunks))) ∷ is.rest =
       ap (λ k. x.world.link k 1) same
-      ∙ waits f g n x p (Msg.PutNo op refused) are is (Old (net.Mv net.everything (real.M_put_no op refused.why (entries f refused.chunks)))) refl in
+      ∙ waits f g n x p (Msg.PutNo op refused) are is (Old (net.Of_move net.everything (MoveMsg.Put_no op refused.why (entries f refused.chunks)))) refl in
       let one : has u (entries f refused.chunks) + copies u b.e.phase ≤ 1 = one_copy_back_all (S f g) (A f g) (is_sys f g.site g.packet) x.world
       (came_by f g x.log) are.every op b.e b.there u net.everything refused.why (entries f refused.chunks) is.rest comes in
       let brought_is : times u (entries f refused.chunks) ≡ has u (entries f refused.chunks) = times_is_has (entries f refused.chunks) is.label.1.distinct u in
@@ -277,7 +277,7 @@ module _ {F R : Type 0} (f : Semantics R) (g : Given) (n : ℕ) (x : Scene F f g
 
   pub put_no_leads : RowLeads f g x p (Msg.PutNo op refused) (hand_step x.nodes.controller op p (Msg.PutNo op refused))
   put_no_leads =
-      let pm = real.M_put_no op refused.why (entries f refused.chunks) in
+      let pm = MoveMsg.Put_no op refused.why (entries f refused.chunks) in
       let step = old_follows f g.site g.packet (place g) x.nodes.controller x.world.ops x.world.shares are.controller.opens op p (Msg.PutNo op refused) pm
       refl refl (λ mv got. put_no_row f (place g) mv.plan mv.phase its_store p op refused) (λ s. refl) in
       by_operation f g n x p (Msg.PutNo op refused) are is op pm refl refl (λ _. refl) refl step (λ mv got. opened f g n x p (Msg.PutNo op refused) are is
@@ -289,8 +289,8 @@ module _ {F R : Type 0} (f : Semantics R) (g : Given) (n : ℕ) (x : Scene F f g
   abbrev event : Msg
   event = Msg.Event op cell
 
-  abbrev seen_event : real.Msg R
-  seen_event = real.M_event op (number cell)
+  abbrev seen_event : MoveMsg R
+  seen_event = MoveMsg.Event op (number cell)
 
   its_port : instance_at x.nodes.controller p ≡ Some (p - 2)
   its_port =
@@ -305,7 +305,7 @@ module _ {F R : Type 0} (f : Semantics R) (g : Given) (n : ℕ) (x : Scene F f g
 
   never : find_op x.world.ops op ≡ None → ⊥
   never none = event_open_all (S f g) (A f g) (is_sys f g.site g.packet) x.world (came_by f g x.log) are.every p op (number cell) net.everything is.rest
-      (waits f g n x p event are is (Old (net.Mv net.everything seen_event)) refl) none
+      (waits f g n x p event are is (Old (net.Of_move net.everything seen_event)) refl) none
 
   pub event_leads : RowLeads f g x p event (on_event x.nodes.controller p op cell (instance_at x.nodes.controller p))
   event_leads = rw its_port (cases (finite.get x.nodes.controller.operations op) refl)

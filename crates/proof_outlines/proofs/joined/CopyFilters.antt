@@ -2,7 +2,7 @@
 -- are handed on.
 use Rattle.proof_outlines.proofs.Words.{◌≡◌, ℕ, zero, suc, true, Option, Some, None, List, [], ◌∷◌, inl, inr, refl, sym, ap, ◌∙◌, subst, arith, if◌then◌else◌}
 use Rattle.proof_outlines.proofs.Words.{option_to_list, Filter, Chunk, Semantics, Command, Msg, op_of, CopyState, Operation, Move, Copy, Share, ControllerState}
-use Rattle.proof_outlines.proofs.Words.{controller_step, selected_chunks, instance_step, EachSent, Each, Chunks, record_at, Any, New, S_chunks, OpenShare}
+use Rattle.proof_outlines.proofs.Words.{controller_step, selected_chunks, instance_step, EachSent, Each, Chunks, record_at, Any, New, ShareMsg, OpenShare}
 use Rattle.proof_outlines.proofs.Words.{node_step, Order, FunctionLaws, InstanceState}
 use Rattle.std.specs.FinMap as finite
 use Rattle.copy_share.specs.Copy as copy
@@ -97,7 +97,7 @@ module _ {R : Type 0} (f : Semantics R) (g : Given) where
 
 -- What an instance sends.
 abbrev chunks_in : {R : Type 0} → List (ℕ × Any R) → Chunks R
-chunks_in ((k, New (S_chunks n cs)) ∷ xs) = cs
+chunks_in ((k, New (ShareMsg.Chunks n cs)) ∷ xs) = cs
 chunks_in xs = []
 
 module _ {F R : Type 0} (f : Semantics R) (laws : FunctionLaws f) (g : Given) (i : InstanceState F R) (h : HasRecords f i.table.live) where

@@ -1,8 +1,8 @@
 -- What a change of the rules does by the log: a unit's packets go then where its route leads, and a plain move that handed it on is told.
 use Rattle.proof_outlines.proofs.Words.{◌≡◌, ℕ, Bool, true, false, Option, Some, None, List, [], ◌∷◌, ◌++◌, refl, sym, ap, ◌∙◌, subst, arith, if◌then◌else◌}
 use Rattle.proof_outlines.proofs.Words.{◌&&◌, ◌||◌, ◌==◌, nat_tests, or-true, Filter, Semantics, takes, stored_of, MovePlan, Operation, Move, Copy, Share}
-use Rattle.proof_outlines.proofs.Words.{ControllerState, place_of, Note, instance_node, Open, find_op, sw_target, OpenShare, S_install, share_target}
-use Rattle.proof_outlines.proofs.Words.{installs_in, owner_after_order, hands_on_plain, installed-append, Unit, Target, Order}
+use Rattle.proof_outlines.proofs.Words.{ControllerState, place_of, Note, instance_node, Open, find_op, sw_target, OpenShare, ShareMsg, share_target}
+use Rattle.proof_outlines.proofs.Words.{installs_in, owner_after_order, hands_on_plain, installed-append, Unit, Target, Order, MoveMsg}
 use Rattle.std.specs.FinMap as finite
 use Rattle.proof_machines.proofs.unit.Real as real
 use Rattle.proof_machines.proofs.net.Net as net
@@ -96,7 +96,7 @@ module _ {R : Type 0} (f : Semantics R) (g : Given) where
 
     -- where a unit's packets go after it is where its route then leads
     pub handed : (to : Unit → ℕ) (u : Unit) → unit_fits f.kind u ≡ true → (log : List Note) → is_whole f.kind filter ≡ true
-        → to u ≡ target_by g u (installs_in log) → sw_target (S f g) to (net.Mv filter (real.M_install op (instance_node from) (instance_node dst))) u
+        → to u ≡ target_by g u (installs_in log) → sw_target (S f g) to (net.Of_move filter (MoveMsg.Install op (instance_node from) (instance_node dst))) u
         ≡ target_by g u (installs_in (log ++ Note.Installed op ∷ []))
     handed to u fits log whole at =
         let i : ℕ = owner_by g u (installs_in log) in
@@ -122,7 +122,7 @@ module _ {R : Type 0} (f : Semantics R) (g : Given) where
   -- a share takes a unit's packets from its home
   pub handed_to_share : (op : ℕ) (filter : Filter) (from : ℕ) → IsDivert g op filter from → (to : Unit → ℕ) (u : Unit)
       → unit_fits f.kind u ≡ true → (log : List Note) → is_whole f.kind filter ≡ true → to u ≡ target_by g u (installs_in log)
-      → share_target (S f g) (A f g) to (S_install op filter (instance_node from)) u ≡ target_by g u (installs_in (log ++ Note.Installed op ∷ []))
+      → share_target (S f g) (A f g) to (ShareMsg.Install op filter (instance_node from)) u ≡ target_by g u (installs_in (log ++ Note.Installed op ∷ []))
   handed_to_share op filter from h to u fits log whole at =
       let i : ℕ = owner_by g u (installs_in log) in
       let d : Bool = is_diverted g u (installs_in log) in

@@ -1,7 +1,7 @@
 -- An instance's step on each message of a run leads from a world of a run to one, by the rows of InstanceSteps.
 use Rattle.proof_outlines.proofs.Words.{◌≡◌, ℕ, zero, suc, ◌≤◌, Bool, true, false, Some, None, List, refl, arith, Filter, Chunk, Fits, Semantics, Records}
 use Rattle.proof_outlines.proofs.Words.{newest_of, Piece, Msg, FullCell, Action, instance_step, inst_step, everything, is_free, Old, New, ShareMsg, Shared_on}
-use Rattle.proof_outlines.proofs.Words.{S_get, S_sync, member_step, MayKeep, node_step, Unit, Mark, FunctionLaws, records_of, InstanceState}
+use Rattle.proof_outlines.proofs.Words.{member_step, MayKeep, node_step, Unit, Mark, FunctionLaws, records_of, InstanceState, MoveMsg}
 use Rattle.proof_machines.proofs.unit.Real as real
 use Rattle.proof_machines.proofs.net.Net as net
 use Rattle.proof_outlines.proofs.joined.Words.{is_whole, number, rule_of, entries, outline_piece, outline_instance, is_sys, Follows, carry_follows}
@@ -120,17 +120,17 @@ module _ {F R : Type 0} (f : Semantics R) (laws : FunctionLaws f) (g : Given) (f
           g.site g.packet (place g) own_at op home cell right.rules e (sound_part f laws g fitting (suc (suc j)) two own_at home cell right at.stands.sound e));
       fence = λ op. old_leads (Msg.Fence op) (net.Fence_on op) refl refl (fence_follows f g.site g.packet (place g) own_at op right.rules);
       stop = λ is may. unseen_leads Msg.Stop own_at.table.standby refl (stop_keeps f g.site g.packet (place g) own_at) same_keep is;
-      enable = λ op filter act w e. old_leads (Msg.Enable op filter act) (net.Mv filter (real.M_enable op (rule_of act))) refl refl
+      enable = λ op filter act w e. old_leads (Msg.Enable op filter act) (net.Of_move filter (MoveMsg.Enable op (rule_of act))) refl refl
           (enable_follows f g.site g.packet (place g) own_at op filter act);
-      stream = λ op filter w. old_leads (Msg.Stream op filter) (net.Mv filter (real.M_stream op)) refl refl
+      stream = λ op filter w. old_leads (Msg.Stream op filter) (net.Of_move filter (MoveMsg.Stream op)) refl refl
           (stream_follows f laws g.site g.packet (place g) own_at op filter w at.records);
-      delete = λ op gone. old_leads (Msg.Delete op gone) (net.Mv everything (real.M_delete op gone)) refl refl
+      delete = λ op gone. old_leads (Msg.Delete op gone) (net.Of_move everything (MoveMsg.Delete op gone)) refl refl
           (delete_follows f laws g.site g.packet (place g) own_at op gone);
-      put = λ op piece first e. old_leads (Msg.Put op piece first) (net.Mv everything (real.M_put op (outline_piece f piece) first)) refl refl
+      put = λ op piece first e. old_leads (Msg.Put op piece first) (net.Of_move everything (MoveMsg.Put op (outline_piece f piece) first)) refl refl
           (put_follows f laws g.site g.packet (place g) own_at op piece first (chunks_good f laws g piece.chunks e.good) e.few);
-      restore = λ op chunks e. old_leads (Msg.Restore op chunks) (net.Mv everything (real.M_restore op (entries f chunks))) refl refl
+      restore = λ op chunks e. old_leads (Msg.Restore op chunks) (net.Of_move everything (MoveMsg.Restore op (entries f chunks))) refl refl
           (restore_follows f laws g.site g.packet (place g) own_at op chunks (chunks_good f laws g chunks e));
-      get = λ op filter w. new_leads (Msg.Get op filter) (S_get op filter) refl
+      get = λ op filter w. new_leads (Msg.Get op filter) (ShareMsg.Get op filter) refl
           (get_follows f laws g.site g.packet (place g) own_at op filter w at.records);
       get_all = λ op is may. unseen_leads (Msg.GetAll op) own_at.table.standby refl (get_all_keeps f g.site g.packet (place g) own_at op) same_keep is;
       standby = λ op chunks e is may. unseen_leads (Msg.Standby op chunks) (newest_of f own_at.table.standby (records_of f chunks)) refl
@@ -138,7 +138,7 @@ module _ {F R : Type 0} (f : Semantics R) (laws : FunctionLaws f) (g : Given) (f
           (chunks_may_keep f g x.world (came_by f g x.log) are.every (suc (suc j)) own_at.table.standby at.standby_is chunks (may op chunks refl)) is;
       put_all = λ op chunk is may.
           unseen_leads (Msg.PutAll op chunk) own_at.table.standby refl (put_all_keeps f g.site g.packet (place g) own_at op chunk) same_keep is;
-      sync = λ home op chunks e. new_leads (Msg.Sync home op chunks) (S_sync op home (entries f chunks)) refl
+      sync = λ home op chunks e. new_leads (Msg.Sync home op chunks) (ShareMsg.Sync op home (entries f chunks)) refl
           (sync_follows f laws g.site g.packet (place g) own_at home op chunks (chunks_good f laws g chunks e));
     }
 

@@ -5,8 +5,8 @@ use Rattle.proof_outlines.proofs.Words.{map, if◌then◌else◌, ◌&&◌, ◌=
 use Rattle.proof_outlines.proofs.Words.{unit_at, same_unit, Mark, stored_of, FullCell, Target, AreFilters, Command, Order, Piece, Msg, Note, instance_node}
 use Rattle.proof_outlines.proofs.Words.{Door, Phase, MoveState, answer_of, CopyState, ShareState, home, SharePhase, SwitchState, takes_in, Move, Copy, Share}
 use Rattle.proof_outlines.proofs.Words.{ControllerState, Network, Stepped, queue_at, at, less_first, OnLinks, EachSent, Each, Open, is_free, links_after}
-use Rattle.proof_outlines.proofs.Words.{Rising, Any, Old, New, S_asked, Sharing, OpenShare, WholeWorld, has, EveryAll, Came, sent_for, Node, Switch, Controller}
-use Rattle.proof_outlines.proofs.Words.{has_twice, Done, arrivals_in, dones_in, installs_in, Unit, IsDistinct, InstanceState}
+use Rattle.proof_outlines.proofs.Words.{Rising, Any, Old, New, ShareMsg, Sharing, OpenShare, WholeWorld, has, EveryAll, Came, sent_for, Node, Switch}
+use Rattle.proof_outlines.proofs.Words.{Controller, has_twice, Done, arrivals_in, dones_in, installs_in, Unit, IsDistinct, InstanceState}
 use Rattle.std.specs.FinMap as finite
 use Rattle.move_op.specs.Phases as phase
 use Rattle.copy_share.specs.Copy as copy
@@ -271,7 +271,7 @@ module _ {R : Type 0} (f : Semantics R) (g : Given) where
 -- the numbers of the commands that are asked for on a link
 abbrev pub asked_num : {R : Type 0} → Any R → Option ℕ
 asked_num (Old (net.Asked x)) = Some x.num
-asked_num (New (S_asked x)) = Some x.num
+asked_num (New (ShareMsg.Asked x)) = Some x.num
 asked_num m = None
 
 abbrev pub asked_nums : {R : Type 0} → List (Any R) → List ℕ

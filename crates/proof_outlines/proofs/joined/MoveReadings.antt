@@ -1,9 +1,9 @@
 -- What is read of an open move in a whole world: of each unit at most one copy of its record, no packet that is left at the end, and no event
 -- without its move. A unit that a share takes has none of these.
 use Rattle.proof_outlines.proofs.Words.{◌≡◌, ℕ, ◌+◌, ◌≤◌, true, false, Some, None, List, [], ◌∷◌, sym, ap, ◌∙◌, arith, Filter, Answer, same_unit}
-use Rattle.proof_outlines.proofs.Words.{same_unit_equiv, Chunks, M_event, M_put_no, Mv, Sys, IsSys, Open, find_op, Any, Old, olds, Sharing, WholeWorld}
-use Rattle.proof_outlines.proofs.Words.{moves_of, copies, one_copy, one_copy_back, event_open, none_mine, ends, Came, WhereAll, Apart_from_shares, Under_share}
-use Rattle.proof_outlines.proofs.Words.{EveryAll, Unit}
+use Rattle.proof_outlines.proofs.Words.{same_unit_equiv, Chunks, MoveMsg, Of_move, Sys, IsSys, Open, find_op, Any, Old, olds, Sharing, WholeWorld, moves_of}
+use Rattle.proof_outlines.proofs.Words.{copies, one_copy, one_copy_back, event_open, none_mine, ends, Came, WhereAll, Apart_from_shares, Under_share, EveryAll}
+use Rattle.proof_outlines.proofs.Words.{Unit}
 use Rattle.proof_machines.proofs.net.UnderStarts.{seeing}
 use Rattle.proof_machines.proofs.net.Copies.{has}
 use Rattle.proof_machines.proofs.net.Stores.{none_left}
@@ -26,7 +26,8 @@ module _ {R : Type 0} (S : Sys R) (A : Sharing S) (laws : IsSys S) (w : WholeWor
         by_where k (Apart_from_shares h none) = one_copy S laws (moves_of S A w) every.global.moves u k.all k.bared h.is n e there
         by_where k (Under_share x before b h o f) = let a = no_copies S A (seeing S A u x) w before k.diverted h n e there in omega (arith, a)
 
-    pub one_copy_back_all : (g : Filter) (why : Answer) (cs : Chunks R) (rest : List (Any R)) → w.link e.op.dst 1 ≡ Old (Mv g (M_put_no n why cs)) ∷ rest
+    pub one_copy_back_all : (g : Filter) (why : Answer) (cs : Chunks R) (rest : List (Any R)) → w.link e.op.dst 1
+        ≡ Old (Of_move g (MoveMsg.Put_no n why cs)) ∷ rest
         → has u cs + copies u e.phase ≤ 1
     one_copy_back_all g why cs rest waits = by_where (came u) (every.unit u)
       where
@@ -39,7 +40,7 @@ module _ {R : Type 0} (S : Sys R) (A : Sharing S) (laws : IsSys S) (w : WholeWor
             omega (arith, a, c)
 
   -- an event is one of an open move
-  pub event_open_all : (i n p : ℕ) (g : Filter) (rest : List (Any R)) → w.link i 1 ≡ Old (Mv g (M_event n p)) ∷ rest → find_op w.ops n ≡ None → ⊥
+  pub event_open_all : (i n p : ℕ) (g : Filter) (rest : List (Any R)) → w.link i 1 ≡ Old (Of_move g (MoveMsg.Event n p)) ∷ rest → find_op w.ops n ≡ None → ⊥
   event_open_all i n p g rest waits none = by_where (came (S.packet_unit p)) (every.unit (S.packet_unit p))
     where
       by_where : (k : Came) → WhereAll S A laws (S.packet_unit p) w k → ⊥

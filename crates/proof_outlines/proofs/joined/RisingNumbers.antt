@@ -3,7 +3,7 @@
 use Rattle.proof_outlines.proofs.Words.{◌≡◌, ℕ, zero, suc, ◌≤◌, Bool, true, false, Option, Some, None, List, [], ◌∷◌, ◌++◌, refl, sym, ap, ◌∙◌, subst, arith}
 use Rattle.proof_outlines.proofs.Words.{if◌then◌else◌, ◌&&◌, ◌||◌, ◌==◌, not, nat_lt, option_map, filter_map, Decides-eqb, Semantics, Target, spelled, Packet}
 use Rattle.proof_outlines.proofs.Words.{Command, Order, Msg, instance_node, SwitchState, sends_to_instance, goes_to, stop_messages, switch_step, has_room}
-use Rattle.proof_outlines.proofs.Words.{is_there, target_of, at, MoveAsked, Rising, rising_less, Any, Old, New, WantShare, S_asked, S_shared, Mark, Unit}
+use Rattle.proof_outlines.proofs.Words.{is_there, target_of, at, MoveAsked, Rising, rising_less, Any, Old, New, ShareAsked, ShareMsg, Mark, Unit}
 use Rattle.switch_node.specs.Switch.{Step, still}
 use Rattle.std.proofs.lemmas.List.Elements.{filter_map-append}
 use Rattle.actor_net.specs.Histories.{sent_for}
@@ -89,7 +89,7 @@ module _ {R : Type 0} (f : Semantics R) (g : Given) where
   -- Numbers as the abstract network sees them.
   abbrev is_asked : Any R → Bool
   is_asked (Old (net.Asked x)) = true
-  is_asked (New (S_asked x)) = true
+  is_asked (New (ShareMsg.Asked x)) = true
   is_asked a = false
 
   abbrev is_asked_in : Option (Any R) → Bool
@@ -98,7 +98,7 @@ module _ {R : Type 0} (f : Semantics R) (g : Given) where
 
   asked_behind : (a : Any R) (rest : List (Any R)) → is_asked a ≡ false → asked_nums (a ∷ rest) ≡ asked_nums rest
   asked_behind (Old (net.Asked x)) rest e = cc
-  asked_behind (New (S_asked x)) rest e = cc
+  asked_behind (New (ShareMsg.Asked x)) rest e = cc
   asked_behind a rest e = refl
 
   unasked_shown : (m : Msg) → IsUnasked m → is_asked_in (shown f g m) ≡ false
@@ -113,7 +113,7 @@ module _ {R : Type 0} (f : Semantics R) (g : Given) where
   unasked_shown (Msg.Forward to (Mark.Shared op home) cell) e = refl
   unasked_shown (Msg.Shared op chunk) e = by_entry (spelled f chunk)
     where
-      by_entry : (o : Option (Unit × R)) → is_asked_in (option_map (λ entry. New (S_shared op entry)) o) ≡ false
+      by_entry : (o : Option (Unit × R)) → is_asked_in (option_map (λ entry. New (ShareMsg.Shared op entry)) o) ≡ false
       by_entry None = refl
       by_entry (Some entry) = refl
   unasked_shown m e = refl
@@ -132,11 +132,11 @@ module _ {R : Type 0} (f : Semantics R) (g : Given) where
   asked_number op (Order.Copy src dst filter) a e rest = cc
   asked_number op (Order.Share members filter) a e rest = by_want (want_share_of (place g) op (Order.Share members filter)) refl e
     where
-      by_want : (o : Option WantShare) → want_share_of (place g) op (Order.Share members filter) ≡ o → option_map (λ w. New (S_asked w)) o ≡ Some a
+      by_want : (o : Option ShareAsked) → want_share_of (place g) op (Order.Share members filter) ≡ o → option_map (λ w. New (ShareMsg.Asked w)) o ≡ Some a
           → asked_nums (a ∷ rest) ≡ op ∷ asked_nums rest
       by_want None at is = cc
       by_want (Some w) at is =
-          let same : New (S_asked w) ≡ a = cc in
+          let same : New (ShareMsg.Asked w) ≡ a = cc in
           subst (λ b. asked_nums (b ∷ rest) ≡ op ∷ asked_nums rest) same
           (ap (λ k. k ∷ asked_nums rest) (is_wanted (place g) op (Order.Share members filter) w at).num)
 

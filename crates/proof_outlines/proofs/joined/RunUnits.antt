@@ -1,6 +1,7 @@
 -- What an instance notes as processed ran in the network with shares.
 use Rattle.proof_outlines.proofs.Words.{◌≡◌, ℕ, suc, ◌≤◌, Some, List, [], refl, filter_map, Fits, Semantics, Msg, instance_step, Records, NumberedInstance}
-use Rattle.proof_outlines.proofs.Words.{inst_step, everything, Any, Old, New, Shared_on, S_get, S_sync, WholeWorld, member_step, FunctionLaws, InstanceState}
+use Rattle.proof_outlines.proofs.Words.{inst_step, everything, Any, Old, New, Shared_on, ShareMsg, WholeWorld, member_step, FunctionLaws, InstanceState}
+use Rattle.proof_outlines.proofs.Words.{MoveMsg}
 use Rattle.proof_machines.proofs.unit.Real as real
 use Rattle.proof_machines.proofs.net.Net as net
 use Rattle.proof_outlines.proofs.joined.Words.{number, rule_of, entries, outline_piece, ran_in, outline_instance, carry_follows, pass_follows, fence_follows}
@@ -38,19 +39,19 @@ module _ {F R : Type 0} (f : Semantics R) (laws : FunctionLaws f) (g : Given) (f
             (record { rules = at.rules; held = at.held; sound = at.records.sound; number = at.number }) at.stands.sound e)).ran;
         fence = λ op. Seen (Old (net.Fence_on op)) refl (fence_follows f g.site g.packet (place g) i op at.rules).ran;
         stop = Unseen refl;
-        enable = λ op filter act w e. Seen (Old (net.Mv filter (real.M_enable op (rule_of act)))) refl
+        enable = λ op filter act w e. Seen (Old (net.Of_move filter (MoveMsg.Enable op (rule_of act)))) refl
             (enable_follows f g.site g.packet (place g) i op filter act).ran;
-        stream = λ op filter w. Seen (Old (net.Mv filter (real.M_stream op))) refl
+        stream = λ op filter w. Seen (Old (net.Of_move filter (MoveMsg.Stream op))) refl
             (stream_follows f laws g.site g.packet (place g) i op filter w at.records).ran;
-        delete = λ op gone. Seen (Old (net.Mv everything (real.M_delete op gone))) refl (delete_follows f laws g.site g.packet (place g) i op gone).ran;
-        put = λ op piece first e. Seen (Old (net.Mv everything (real.M_put op (outline_piece f piece) first))) refl
+        delete = λ op gone. Seen (Old (net.Of_move everything (MoveMsg.Delete op gone))) refl (delete_follows f laws g.site g.packet (place g) i op gone).ran;
+        put = λ op piece first e. Seen (Old (net.Of_move everything (MoveMsg.Put op (outline_piece f piece) first))) refl
             (put_follows f laws g.site g.packet (place g) i op piece first (chunks_good f laws g piece.chunks e.good) e.few).ran;
-        restore = λ op chunks e. Seen (Old (net.Mv everything (real.M_restore op (entries f chunks)))) refl
+        restore = λ op chunks e. Seen (Old (net.Of_move everything (MoveMsg.Restore op (entries f chunks)))) refl
             (restore_follows f laws g.site g.packet (place g) i op chunks (chunks_good f laws g chunks e)).ran;
-        get = λ op filter w. Seen (New (S_get op filter)) refl (get_follows f laws g.site g.packet (place g) i op filter w at.records).ran;
+        get = λ op filter w. Seen (New (ShareMsg.Get op filter)) refl (get_follows f laws g.site g.packet (place g) i op filter w at.records).ran;
         get_all = λ op. Unseen (get_all_keeps f g.site g.packet (place g) i op).ran;
         standby = λ op chunks e. Unseen (standby_keeps f g.site g.packet (place g) i op chunks (chunks_good f laws g chunks e)).ran;
         put_all = λ op chunk. Unseen (put_all_keeps f g.site g.packet (place g) i op chunk).ran;
-        sync = λ home op chunks e. Seen (New (S_sync op home (entries f chunks))) refl
+        sync = λ home op chunks e. Seen (New (ShareMsg.Sync op home (entries f chunks))) refl
             (sync_follows f laws g.site g.packet (place g) i home op chunks (chunks_good f laws g chunks e)).ran;
       }

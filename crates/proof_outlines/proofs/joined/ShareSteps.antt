@@ -2,9 +2,9 @@
 -- target is the controller.
 use Rattle.proof_outlines.proofs.Words.{◌≡◌, ℕ, true, false, Option, Some, None, [], refl, sym, ap, ◌∙◌, subst, arith, if◌then◌else◌, ◌==◌, option_map}
 use Rattle.proof_outlines.proofs.Words.{Decides-eqb, same_Some, Chunk, Semantics, stored_of, FullCell, Msg, switch_node, MoveState, ShareState, Operation, Move}
-use Rattle.proof_outlines.proofs.Words.{Copy, Share, ControllerState, still, hand_step, queue_step, on_diverted, Any, New, S_shared, S_synced, Diverted_on}
-use Rattle.proof_outlines.proofs.Words.{OpenShare, find_share, share_taking, Told, Is_fenced, Has_chunk, Is_synced, Has_packet, by_share, taking_found}
-use Rattle.proof_outlines.proofs.Words.{either_way, Unit}
+use Rattle.proof_outlines.proofs.Words.{Copy, Share, ControllerState, still, hand_step, queue_step, on_diverted, Any, New, ShareMsg, Diverted_on, OpenShare}
+use Rattle.proof_outlines.proofs.Words.{find_share, share_taking, Told, Is_fenced, Has_chunk, Is_synced, Has_packet, by_share, taking_found, either_way, Unit}
+use Rattle.proof_outlines.proofs.Words.{MoveMsg}
 use Rattle.std.specs.FinMap as finite
 use Rattle.proof_machines.proofs.unit.Real as real
 use Rattle.proof_outlines.proofs.joined.Words.{number, fenced_row, is_copied, joins, real_share, StepFollows, Given, place, Scene, AreShown, IsTaken, S, A}
@@ -32,7 +32,7 @@ module _ {F R : Type 0} (f : Semantics R) (g : Given) (n : ℕ) (x : Scene F f g
       (by_share (S f g) (A f g) x.world.shares p (option_map (λ e. (e, t)) o))) none
 
   pub fenced_leads : (op : ℕ) → IsTakenHere (Msg.Fenced op) → RowLeads f g x p (Msg.Fenced op) (hand_step c op p (Msg.Fenced op))
-  fenced_leads op is = told_leads f g n x p (Msg.Fenced op) are is op (real.M_fenced op) refl refl refl refl
+  fenced_leads op is = told_leads f g n x p (Msg.Fenced op) are is op (MoveMsg.Fenced op) refl refl refl refl
       (λ none. ap (option_map (λ e. (e, Is_fenced))) none)
       (λ mv h. fenced_row f (place g) mv.plan mv.phase (stored_of c.store op) p op h.refusing)
       (fenced_follows f g.site g.packet (place g) c x.world.ops x.world.shares are.controller.opens op p (are.controller.genuine op)
@@ -61,8 +61,8 @@ module _ {F R : Type 0} (f : Semantics R) (g : Given) (n : ℕ) (x : Scene F f g
   shared_leads op chunk is =
       let m = Msg.Shared op chunk in
       let good = is.label.1.chunk in
-      let a : Any R = New (S_shared op good.entry) in
-      let seen : shown f g m ≡ Some a = ap (option_map (λ e. New (S_shared op e))) good.spells in
+      let a : Any R = New (ShareMsg.Shared op good.entry) in
+      let seen : shown f g m ≡ Some a = ap (option_map (λ e. New (ShareMsg.Shared op e))) good.spells in
       by_share_alone m is op a seen refl (untold op (Has_chunk good.entry))
       (λ mv there. move_still c op mv p m (are.controller.going op mv there) there (unlooked mv (stored_of c.store mv.plan.op) p m refl refl))
       (λ s there. share_leads f g n x p m are is op s there a seen (shared_follows f g.site g.packet (place g) c x.world.ops x.world.shares
@@ -71,9 +71,9 @@ module _ {F R : Type 0} (f : Semantics R) (g : Given) (n : ℕ) (x : Scene F f g
   pub synced_leads : (op : ℕ) → IsTakenHere (Msg.Synced op) → RowLeads f g x p (Msg.Synced op) (hand_step c op p (Msg.Synced op))
   synced_leads op is =
       let m = Msg.Synced op in
-      by_share_alone m is op (New (S_synced op)) refl refl (untold op Is_synced)
+      by_share_alone m is op (New (ShareMsg.Synced op)) refl refl (untold op Is_synced)
       (λ mv there. move_still c op mv p m (are.controller.going op mv there) there (unlooked mv (stored_of c.store mv.plan.op) p m refl refl))
-      (λ s there. share_leads f g n x p m are is op s there (New (S_synced op)) refl (synced_follows f g.site g.packet (place g) c x.world.ops
+      (λ s there. share_leads f g n x p m are is op s there (New (ShareMsg.Synced op)) refl (synced_follows f g.site g.packet (place g) c x.world.ops
       x.world.shares are.controller.opens op p (are.controller.genuine op) (λ mv has. are.controller.going op mv has)) refl)
 
   -- A packet whose target is the controller.

@@ -3,8 +3,7 @@
 use Rattle.proof_outlines.proofs.Words.{◌≡◌, ℕ, zero, suc, ◌+◌, ◌<◌, true, false, Option, Some, None, List, [], ◌∷◌, ◌++◌, length, refl, sym, ap, ◌∙◌, subst}
 use Rattle.proof_outlines.proofs.Words.{arith, ◌&&◌, ◌==◌, nat_tests, each_map, Filter, Chunk, Semantics, Msg, Note, Operation, Move, Copy, Share}
 use Rattle.proof_outlines.proofs.Words.{controller_step, Choice, Network, Stepped, is_input, queue_at, world_next, at, Takes, Taking, Each, OnLinks, EachSent}
-use Rattle.proof_outlines.proofs.Words.{on_links_after, New, ShareMsg, S_chunks, EachNew, ran_of, Node, node_step, node_ready, dones_in, done-append}
-use Rattle.proof_outlines.proofs.Words.{either_way, Unit}
+use Rattle.proof_outlines.proofs.Words.{on_links_after, New, ShareMsg, EachNew, ran_of, Node, node_step, node_ready, dones_in, done-append, either_way, Unit}
 use Rattle.std.specs.FinMap as finite
 use Rattle.copy_share.specs.Copy as copy
 use Rattle.proof_machines.proofs.whole.Fronts.{MsgFront}
@@ -65,7 +64,7 @@ module _ {F R : Type 0} (f : Semantics R) (g : Given) (n : ℕ) (x : Scene F f g
   no_input = elim (p == 0) as (λ b. b && false ≡ false) [ true ↦ refl | false ↦ refl ]
 
   comes_fronted : (op : ℕ) (chunks : List Chunk) → IsTakenHere (Msg.Chunks op chunks) → AreFronted f g x.world chunks
-  comes_fronted op chunks is u = head_front f g n x 1 p (Msg.Chunks op chunks) are is no_input (S_chunks op (entries f chunks)) refl u
+  comes_fronted op chunks is u = head_front f g n x 1 p (Msg.Chunks op chunks) are is no_input (ShareMsg.Chunks op (entries f chunks)) refl u
 
   -- and so is what it sends on
   module _ (m : Msg) (is : IsTakenHere m) (l : Leads f g n x (record { node = 1; port = p; message = m }) (node_step f (node_of x.nodes 1) p m)) where

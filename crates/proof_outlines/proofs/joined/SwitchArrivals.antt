@@ -3,9 +3,9 @@ use Rattle.proof_outlines.proofs.Words.{◌≡◌, ℕ, ◌+◌, ◌-◌, ◌≤
 use Rattle.proof_outlines.proofs.Words.{sym, ap, ◌∙◌, subst, arith, if◌then◌else◌, ◌&&◌, ◌||◌, ◌==◌, not, unwrap_or, filter, nat_tests, filter-append, Packet}
 use Rattle.proof_outlines.proofs.Words.{flow_of, Semantics, unit_at, same_unit-true, FullCell, one_less, one_more, Target, first_match, Command, Msg, Note}
 use Rattle.proof_outlines.proofs.Words.{instance_node, SwitchState, arrival_step, goes_to, has_room, is_there, on_packet, on_command, on_credit, target_of}
-use Rattle.proof_outlines.proofs.Words.{less_first, EachSent, neither, sent_for, MoveAsked, Rising, Any, Old, New, S_asked, WantShare, WholeWorld, arrive_sends}
-use Rattle.proof_outlines.proofs.Words.{asks, whole_input, comes, EveryAll, input_every_all, asks_move_every_all, asks_share_every_all, as_node, Switch}
-use Rattle.proof_outlines.proofs.Words.{arrivals_in, installs_in, arrived-append, by_if, Unit, Mark, split}
+use Rattle.proof_outlines.proofs.Words.{less_first, EachSent, neither, sent_for, MoveAsked, Rising, Any, Old, New, ShareMsg, ShareAsked, WholeWorld}
+use Rattle.proof_outlines.proofs.Words.{arrive_sends, asks, whole_input, comes, EveryAll, input_every_all, asks_move_every_all, asks_share_every_all, as_node}
+use Rattle.proof_outlines.proofs.Words.{Switch, arrivals_in, installs_in, arrived-append, by_if, Unit, Mark, split}
 use Rattle.switch_node.specs.Switch.{still}
 use Rattle.proof_machines.proofs.net.Net as net
 use Rattle.std.proofs.lemmas.List.Elements.{filter_map-append}
@@ -149,12 +149,12 @@ module _ {F R : Type 0} (f : Semantics R) (g : Given) (n : ℕ) (x : Scene F f g
     pub command_leads : Leads f g n x (record { node = 0; port = 0; message = Msg.InCommand c }) (as_node Switch (on_command s c))
     command_leads = by_want (want_of (place g) c.op c.what) (want_share_of (place g) c.op c.what) refl refl
       where
-        by_want : (o : Option MoveAsked) (k : Option WantShare) → want_of (place g) c.op c.what ≡ o → want_share_of (place g) c.op c.what ≡ k
+        by_want : (o : Option MoveAsked) (k : Option ShareAsked) → want_of (place g) c.op c.what ≡ o → want_share_of (place g) c.op c.what ≡ k
             → Leads f g n x (record { node = 0; port = 0; message = Msg.InCommand c }) (as_node Switch (on_command s c))
         by_want (Some w) k a b = asked_leads (Old (net.Asked w)) (asked_move f (place g) c.op c.what w a) (ap (λ k. k ∷ [])
             (want_num c.op c.what (place g) w a)) (asks_move_every_all (S f g) (A f g) (is_sys f g.site g.packet) x.world (came_by f g x.log) are.every w)
         by_want None (Some w) a b =
-            asked_leads (New (S_asked w)) (asked_share f (place g) c.op c.what w b) (ap (λ k. k ∷ []) (is_wanted (place g) c.op c.what w b).num)
+            asked_leads (New (ShareMsg.Asked w)) (asked_share f (place g) c.op c.what w b) (ap (λ k. k ∷ []) (is_wanted (place g) c.op c.what w b).num)
             (asks_share_every_all (S f g) (A f g) (is_sys f g.site g.packet) x.world (came_by f g x.log) are.every w)
         by_want None None a b = unseen_leads (asked_none f (place g) c.op c.what a b)
 

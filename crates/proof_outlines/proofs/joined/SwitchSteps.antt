@@ -2,8 +2,8 @@
 use Rattle.proof_outlines.proofs.Words.{◌≡◌, ℕ, ◌-◌, Bool, true, Some, List, [], ◌∷◌, ◌++◌, refl, sym, ap, ◌∙◌, subst, arith, nat_lt, and_parts, Filter, Packet}
 use Rattle.proof_outlines.proofs.Words.{Semantics, FullCell, Target, rules_redirected, Command, Msg, Note, instance_node, SwitchState, on_install}
 use Rattle.proof_outlines.proofs.Words.{sends_to_instance, is_there, stop_messages, EachSent, everything, find_op, links_after, sw_target, Any, Old, New}
-use Rattle.proof_outlines.proofs.Words.{S_forward, S_install, WholeWorld, whole_switch, share_target, EveryAll, switch_every_all, as_node, node_step, Switch}
-use Rattle.proof_outlines.proofs.Words.{arrivals_in, dones_in, installs_in, Unit, Mark, FunctionLaws}
+use Rattle.proof_outlines.proofs.Words.{ShareMsg, WholeWorld, whole_switch, share_target, EveryAll, switch_every_all, as_node, node_step, Switch, arrivals_in}
+use Rattle.proof_outlines.proofs.Words.{dones_in, installs_in, Unit, Mark, FunctionLaws, MoveMsg}
 use Rattle.switch_rules.proofs.RedirectLaws.{AreFilters-redirected}
 use Rattle.proof_machines.proofs.unit.Real as real
 use Rattle.proof_machines.proofs.net.Net as net
@@ -74,7 +74,7 @@ module _ {F R : Type 0} (f : Semantics R) (g : Given) (n : ℕ) (x : Scene F f g
   there i e = let same = are.switch.instances in rw same e
 
   passed_leads : (to op : ℕ) (cell : FullCell) (rest : List (Any R)) → nat_lt to (count f g) ≡ true → Genuine f g cell
-      → x.world.link 1 0 ≡ Old (net.Mv everything (real.M_forward (number cell) (instance_node to))) ∷ rest
+      → x.world.link 1 0 ≡ Old (net.Of_move everything (MoveMsg.Forward (number cell) (instance_node to))) ∷ rest
       → Leads f g n x (record { node = 0; port = 1; message = Msg.Forward to (Mark.Pass op) cell })
       (as_node Switch (sends_to_instance s to (Msg.Carry (Mark.Pass op) cell)))
   passed_leads to op cell rest e genuine waits =
@@ -83,7 +83,7 @@ module _ {F R : Type 0} (f : Semantics R) (g : Given) (n : ℕ) (x : Scene F f g
       waits refl (refl, tt) (((refl, omega arith), genuine), tt) are.switch (told_nothing _ (λ u h k from to e is _ _ _ _. cc)))
 
   shared_leads : (to op : ℕ) (home : Bool) (cell : FullCell) (rest : List (Any R)) → nat_lt to (count f g) ≡ true
-      → Genuine f g cell → x.world.link 1 0 ≡ New (S_forward op home (number cell) (instance_node to)) ∷ rest
+      → Genuine f g cell → x.world.link 1 0 ≡ New (ShareMsg.Forward op home (number cell) (instance_node to)) ∷ rest
       → Leads f g n x (record { node = 0; port = 1; message = Msg.Forward to (Mark.Shared op home) cell })
       (as_node Switch (sends_to_instance s to (Msg.Carry (Mark.Shared op home) cell)))
   shared_leads to op home cell rest e genuine waits =
@@ -92,7 +92,7 @@ module _ {F R : Type 0} (f : Semantics R) (g : Given) (n : ℕ) (x : Scene F f g
       x.world.target refl waits refl (refl, tt) (((refl, omega arith), genuine), tt) are.switch (told_nothing _ (λ u. tt)))
 
   fence_leads : (op to : ℕ) (rest : List (Any R)) → nat_lt to (count f g) ≡ true
-      → x.world.link 1 0 ≡ Old (net.Mv everything (real.M_fence_to op (instance_node to))) ∷ rest
+      → x.world.link 1 0 ≡ Old (net.Of_move everything (MoveMsg.Fence_to op (instance_node to))) ∷ rest
       → Leads f g n x (record { node = 0; port = 1; message = Msg.FenceTo op to }) (as_node Switch (sends_to_instance s to (Msg.Fence op)))
   fence_leads op to rest e waits =
       let is_there = there to e in
@@ -120,8 +120,8 @@ module _ {F R : Type 0} (f : Semantics R) (g : Given) (n : ℕ) (x : Scene F f g
 
   told_install : (op : ℕ) (filter : Filter) (from to : ℕ) → is_whole f.kind filter ≡ true
       → IsInstall g op (record { filter = filter; from = from; to = Target.Instance to })
-      → Told (Old (net.Mv filter (real.M_install op (instance_node from) (instance_node to))))
-      (λ v. sw_target (S f g) x.world.target (net.Mv filter (real.M_install op (instance_node from) (instance_node to))) v) (Note.Installed op ∷ [])
+      → Told (Old (net.Of_move filter (MoveMsg.Install op (instance_node from) (instance_node to))))
+      (λ v. sw_target (S f g) x.world.target (net.Of_move filter (MoveMsg.Install op (instance_node from) (instance_node to))) v) (Note.Installed op ∷ [])
   told_install op filter from to whole its = record {
     still = refl;
     none = refl;
@@ -140,7 +140,7 @@ module _ {F R : Type 0} (f : Semantics R) (g : Given) (n : ℕ) (x : Scene F f g
 
   install_leads : (op : ℕ) (filter : Filter) (from to : ℕ) (rest : List (Any R)) → nat_lt from (count f g) ≡ true → nat_lt to (count f g) ≡ true
       → is_whole f.kind filter ≡ true → IsInstall g op (record { filter = filter; from = from; to = Target.Instance to })
-      → x.world.link 1 0 ≡ Old (net.Mv filter (real.M_install op (instance_node from) (instance_node to))) ∷ rest
+      → x.world.link 1 0 ≡ Old (net.Of_move filter (MoveMsg.Install op (instance_node from) (instance_node to))) ∷ rest
       → Leads f g n x (record { node = 0; port = 1; message = Msg.Install op filter from (Target.Instance to) })
       (as_node Switch (on_install s op filter from (Target.Instance to)))
   install_leads op filter from to rest a b whole its waits =
@@ -154,8 +154,8 @@ module _ {F R : Type 0} (f : Semantics R) (g : Given) (n : ℕ) (x : Scene F f g
 
   -- to the controller, for a share
   told_divert : (op : ℕ) (filter : Filter) (from : ℕ) → is_whole f.kind filter ≡ true → IsDivert g op filter from
-      → Told (New (S_install op filter (instance_node from)))
-      (λ v. share_target (S f g) (A f g) x.world.target (S_install op filter (instance_node from)) v) (Note.Installed op ∷ [])
+      → Told (New (ShareMsg.Install op filter (instance_node from)))
+      (λ v. share_target (S f g) (A f g) x.world.target (ShareMsg.Install op filter (instance_node from)) v) (Note.Installed op ∷ [])
   told_divert op filter from whole its = record {
     still = refl;
     none = refl;
@@ -165,7 +165,7 @@ module _ {F R : Type 0} (f : Semantics R) (g : Given) (n : ℕ) (x : Scene F f g
   }
 
   divert_leads : (op : ℕ) (filter : Filter) (from : ℕ) (rest : List (Any R)) → nat_lt from (count f g) ≡ true
-      → is_whole f.kind filter ≡ true → IsDivert g op filter from → x.world.link 1 0 ≡ New (S_install op filter (instance_node from)) ∷ rest
+      → is_whole f.kind filter ≡ true → IsDivert g op filter from → x.world.link 1 0 ≡ New (ShareMsg.Install op filter (instance_node from)) ∷ rest
       → Leads f g n x (record { node = 0; port = 1; message = Msg.Install op filter from Target.Controller })
       (as_node Switch (on_install s op filter from Target.Controller))
   divert_leads op filter from rest a whole its waits =

@@ -2,9 +2,10 @@
 use Rattle.proof_outlines.proofs.Words.{◌≡◌, ℕ, Bool, true, false, Option, Some, None, List, [], ◌∷◌, map, refl, sym, ap, ◌∙◌, subst, append-nil, arith, eqb}
 use Rattle.proof_outlines.proofs.Words.{◌==◌, cond, unwrap_or, nat_cmp, nat_cmp_total, nat_tests, Decides-eqb, Semantics, FullCell, stored_of, order_test}
 use Rattle.proof_outlines.proofs.Words.{stored-with_parcels, Answer, Msg, Phase, MoveState, row, row_in, store_after, answer_of, Operation, Move, Copy, Share}
-use Rattle.proof_outlines.proofs.Words.{OpenOperations, Turn, turn_of, turn_of_move, switch_node, ControllerState, Step, after_turn, takes_turn, RPhase, Open}
+use Rattle.proof_outlines.proofs.Words.{OpenOperations, Turn, turn_of, turn_of_move, switch_node, ControllerState, Step, after_turn, takes_turn, MovePhase}
+use Rattle.proof_outlines.proofs.Words.{Open}
 use Rattle.proof_machines.proofs.NumberedLists.{find-drop_own}
-use Rattle.proof_outlines.proofs.Words.{ControllerMove, find_op, write_op, found, wrap, find_set, find_write_other, either_way}
+use Rattle.proof_outlines.proofs.Words.{ControllerMove, find_op, write_op, found, wrap, find_set, find_write_other, either_way, MoveMsg}
 use Rattle.std.specs.FinMap as finite
 use Rattle.move_op.specs.Phases as phase
 use Rattle.proof_machines.proofs.unit.Real as real
@@ -78,7 +79,7 @@ module _ {R : Type 0} (f : Semantics R) (place : List ℕ → Option ℕ) where
     own_stored = stored_after s.store m.plan.op n o ∙ ap (λ b. cond (eqb n b) (unwrap_or o events) events) same
         ∙ ap (λ b. cond b (unwrap_or o events) events) (let self : eqb n n ≡ true = grind (arith, nat_tests) in self)
 
-    open_after : (ph : Phase) (rp : RPhase R) → rp ≡ outline_phase f place ph → ((f : List ℕ) → write_op n rp f ops ≡ net.set_op n rp f ops)
+    open_after : (ph : Phase) (rp : MovePhase R) → rp ≡ outline_phase f place ph → ((f : List ℕ) → write_op n rp f ops ≡ net.set_op n rp f ops)
         → Opens (write_op n rp (map number (unwrap_or o events)) ops)
         (record s { operations = finite.insert s.operations n (Move (record m { phase = ph })); store = after_store })
     open_after ph rp is sets k =
@@ -133,11 +134,11 @@ module _ {R : Type 0} (f : Semantics R) (place : List ℕ → Option ℕ) where
             (sym (find-drop_own _ n ops)) (subst (λ x. Sees None x (stored_of after_store n)) (sym got) tt)
 
     -- after a row, by the phase that it leaves
-    written_after : (ph : Phase) (rp : RPhase R) (sends : List (ℕ × Msg)) → rp ≡ outline_phase f place ph
+    written_after : (ph : Phase) (rp : MovePhase R) (sends : List (ℕ × Msg)) → rp ≡ outline_phase f place ph
         → Opens (write_op n rp (map number (unwrap_or o events)) ops) (after_turn s n
         (record { operation = Some (Move (record m { phase = ph })); store = after_store; sends = sends; answer = answer_of ph }) (answer_of ph)).node
-    written_after (phase.Streaming fz fr c d) rp sends is =
-        rw is (open_after (phase.Streaming fz fr c d) (outline_phase f place (phase.Streaming fz fr c d)) refl (λ _. refl))
+    written_after (phase.Streaming to_remove removed c d) rp sends is =
+        rw is (open_after (phase.Streaming to_remove removed c d) (outline_phase f place (phase.Streaming to_remove removed c d)) refl (λ _. refl))
     written_after (phase.Over why) rp sends is = rw is (closed_after (phase.Over why) (refused_by why))
     written_after ph rp sends is = rw is (open_after ph (outline_phase f place ph) refl (λ _. refl))
 
@@ -147,7 +148,7 @@ module _ {R : Type 0} (f : Semantics R) (place : List ℕ → Option ℕ) where
   turn_sends s n t (Some why) = filter_map-put (outline_sent f place) t.sends ((switch_node, Msg.Answered n) ∷ []) ∙ append-nil (outline_sends f place t.sends)
 
   -- A message of an open operation's number.
-  pub turn_same : (s : ControllerState) (ops : List (Open R)) (n port : ℕ) (m : Msg) (pm : real.Msg R) (e : Open R) (mv : MoveState)
+  pub turn_same : (s : ControllerState) (ops : List (Open R)) (n port : ℕ) (m : Msg) (pm : MoveMsg R) (e : Open R) (mv : MoveState)
       → Opens ops s → find_op ops n ≡ Some e → finite.get s.operations n ≡ Some (Move mv) → SeesMove e mv (stored_of s.store n) → mv.plan.op ≡ n
       → RowFollows f place mv.plan (stored_of s.store n) (row mv (stored_of s.store n) port m)
       (net.row_of (outline_plan mv.plan) (outline_phase f place mv.phase) (map number (stored_of s.store n)) port pm)

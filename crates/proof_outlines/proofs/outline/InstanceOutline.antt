@@ -2,8 +2,8 @@
 use Rattle.proof_outlines.proofs.Words.{◌≡◌, ℕ, true, false, Option, Some, None, List, [], ◌∷◌, ◌++◌, map, refl, sym, ap, ◌∙◌, subst, append-nil, if◌then◌else◌}
 use Rattle.proof_outlines.proofs.Words.{◌==◌, not, is_some, option_map, option_map_or, filter_map, map-append, Filter, Flow, Packet, Site, matches, flow_of}
 use Rattle.proof_outlines.proofs.Words.{is_transport, unit_of, Semantics, unit_at, Records, after_packet, Action, FullCell, Instance, carry_step, on_enable}
-use Rattle.proof_outlines.proofs.Words.{controller_node, M_enable, M_fenced, Each, Ruling, InstanceTurn, find_rule, drop_rule, change_rules, has_rule, set_rule}
-use Rattle.proof_outlines.proofs.Words.{ruled_by, holding, held_of, process, process_all, runs_it, by_rule, inst_step, everything, split, Mark, Msg, EventRule}
+use Rattle.proof_outlines.proofs.Words.{controller_node, MoveMsg, Each, Ruling, InstanceTurn, find_rule, drop_rule, change_rules, has_rule, set_rule, ruled_by}
+use Rattle.proof_outlines.proofs.Words.{holding, held_of, process, process_all, runs_it, by_rule, inst_step, everything, split, Mark, Msg, EventRule}
 use Rattle.std.proofs.Common.{filter}
 use Rattle.std.specs.FinMap as finite
 use Rattle.event_filter.specs.Rules as rules
@@ -210,12 +210,12 @@ module _ {F R : Type 0} (f : Semantics R) (site : Site) (packet : ℕ → Packet
             ∙ ap (λ h. record (outline_instance f site packet
             i) { live = process_all (sys f site packet) i.table.live h; rules = drop_rule op (map outline_rule i.rules) }) (held_same op i.rules);
         sends = filter_map-put (outline_sent f place) (all_processed f without cells).sends ((controller_node, Msg.Fenced op) ∷ [])
-            ∙ ap (λ xs. xs ++ (controller_node, net.Mv everything (M_fenced op)) ∷ []) all.sends;
+            ∙ ap (λ xs. xs ++ (controller_node, net.Of_move everything (MoveMsg.Fenced op)) ∷ []) all.sends;
         ran = filter_map-put ran_in (all_processed f without cells).notes [] ∙ append-nil (filter_map ran_in (all_processed f without cells).notes)
             ∙ all.ran ∙ held_same op i.rules;
       }
 
   pub enable_follows : (i : Instance F R) (op : ℕ) (g : Filter) (act : Action) → Follows f site packet place (on_enable i op g act)
-      (inst_step (sys f site packet) (outline_instance f site packet i) (net.Mv g (M_enable op (rule_of act))))
+      (inst_step (sys f site packet) (outline_instance f site packet i) (net.Of_move g (MoveMsg.Enable op (rule_of act))))
   enable_follows i op g act =
       record { node = ap (λ rs. record (outline_instance f site packet i) { rules = rs }) (set_same op g act i.rules); sends = refl; ran = refl }

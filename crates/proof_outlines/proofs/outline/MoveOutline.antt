@@ -2,8 +2,8 @@
 use Rattle.proof_outlines.proofs.Words.{map-append, ◌≡◌, ℕ, Bool, true, false, Option, Some, None, List, [], ◌∷◌, ◌++◌, map, refl, sym, ap, ◌∙◌, subst}
 use Rattle.proof_outlines.proofs.Words.{if◌then◌else◌, ◌==◌, unwrap_or, Chunk, Semantics, spelled, FullCell, Answer, Refused, Msg, instance_node, Phase}
 use Rattle.proof_outlines.proofs.Words.{MovePlan, MoveNext, MoveRow, keeps, next_phase, have_units, chunks_of, put_back, source, destination, put_to}
-use Rattle.proof_outlines.proofs.Words.{forward_to, words, from_source, from_destination, row, on_event, on_piece, on_source_fenced, RPhase, Op, OperationTurn}
-use Rattle.proof_outlines.proofs.Words.{r_words, Each, wrap, row_of, Unit, Target, Door, APiece, split}
+use Rattle.proof_outlines.proofs.Words.{forward_to, words, from_source, from_destination, row, on_event, on_piece, on_source_fenced, MovePhase, Op}
+use Rattle.proof_outlines.proofs.Words.{OperationTurn, operation_words, Each, wrap, row_of, Unit, Target, Door, APiece, split, MoveMsg}
 use Rattle.nf_msgs.specs.Exports.{units_in}
 use Rattle.move_op.specs.Phases as phase
 use Rattle.proof_machines.proofs.unit.Real as real
@@ -36,7 +36,7 @@ IsRefusing (phase.Undoing why) = is_done why ≡ false
 IsRefusing p = Prim.Unit {0}
 
 module _ {R : Type 0} (f : Semantics R) (place : List ℕ → Option ℕ) where
-  abbrev pub outline_phase : Phase → RPhase R
+  abbrev pub outline_phase : Phase → MovePhase R
   outline_phase = map_phase (outline_piece f) refused_by
 
   -- a chunk whose bytes spell a record of its unit
@@ -70,15 +70,15 @@ module _ {R : Type 0} (f : Semantics R) (place : List ℕ → Option ℕ) where
   puts_same : (plan : MovePlan) (ps : List APiece)
       → outline_sends f place (map (put_to plan false) ps) ≡ wrap plan.filter (map (real.put_to (outline_plan plan)) (map (outline_piece f) ps))
   puts_same plan [] = refl
-  puts_same plan (p ∷ ps) = ap (λ xs. (destination plan, net.Mv net.everything (real.M_put plan.op (outline_piece f p) false)) ∷ xs) (puts_same plan ps)
+  puts_same plan (p ∷ ps) = ap (λ xs. (destination plan, net.Of_move net.everything (MoveMsg.Put plan.op (outline_piece f p) false)) ∷ xs) (puts_same plan ps)
 
   forwards_same : (plan : MovePlan) (to : ℕ) (cells : List FullCell)
       → outline_sends f place (map (forward_to plan to) cells) ≡ wrap plan.filter (map (real.forward_to (instance_node to)) (map number cells))
   forwards_same plan to [] = refl
-  forwards_same plan to (c ∷ cs) = ap (λ xs. (0, net.Mv net.everything (real.M_forward (number c) (instance_node to))) ∷ xs) (forwards_same plan to cs)
+  forwards_same plan to (c ∷ cs) = ap (λ xs. (0, net.Of_move net.everything (MoveMsg.Forward (number c) (instance_node to))) ∷ xs) (forwards_same plan to cs)
 
   -- the stored parcels are sent on, and a message to the switch after them
-  sent_on : (plan : MovePlan) (to : ℕ) (events : List FullCell) (m : Msg) (seen : real.Msg R)
+  sent_on : (plan : MovePlan) (to : ℕ) (events : List FullCell) (m : Msg) (seen : MoveMsg R)
       → outline_sends f place ((0, m) ∷ []) ≡ wrap plan.filter ((0, seen) ∷ [])
       → outline_sends f place (map (forward_to plan to) events ++ (0, m) ∷ [])
       ≡ wrap plan.filter (map (real.forward_to (instance_node to)) (map number events) ++ (0, seen) ∷ [])
@@ -92,7 +92,8 @@ module _ {R : Type 0} (f : Semantics R) (place : List ℕ → Option ℕ) where
   NextFollows plan events next did = RowFollows plan events (keeps next) did
 
   -- each word of the table is outlined as the network's
-  follows : (plan : MovePlan) (events : List FullCell) → Follow (words plan) (r_words (outline_plan plan) (map number events)) events (map number events)
+  follows : (plan : MovePlan) (events : List FullCell)
+      → Follow (words plan) (operation_words (outline_plan plan) (map number events)) events (map number events)
       (outline_piece f) refused_by (NextFollows plan events) (RowFollows plan events)
   follows plan events = record {
     last = λ p. refl;
@@ -102,7 +103,7 @@ module _ {R : Type 0} (f : Semantics R) (place : List ℕ → Option ℕ) where
     restore = λ why ps. record {
       phase = refl;
       store = refl;
-      sends = ap (λ cs. (source plan, net.Mv net.everything (real.M_restore plan.op cs)) ∷ []) (chunks_same ps);
+      sends = ap (λ cs. (source plan, net.Of_move net.everything (MoveMsg.Restore plan.op cs)) ∷ []) (chunks_same ps);
     };
     hold_at_source = λ why. record { phase = refl; store = refl; sends = refl };
     ask = λ a b came p. record { phase = refl; store = refl; sends = refl };
@@ -112,12 +113,12 @@ module _ {R : Type 0} (f : Semantics R) (place : List ℕ → Option ℕ) where
       phase = refl;
       store = refl;
       sends = sent_on plan plan.to events (Msg.Install plan.op plan.filter plan.from (Target.Instance plan.to))
-          (real.M_install plan.op (source plan) (destination plan)) refl;
+          (MoveMsg.Install plan.op (source plan) (destination plan)) refl;
     };
     give_back = λ why. record {
       phase = refl;
       store = refl;
-      sends = sent_on plan plan.from events (Msg.FenceTo plan.op plan.from) (real.M_fence_to plan.op (source plan)) refl;
+      sends = sent_on plan plan.from events (Msg.FenceTo plan.op plan.from) (MoveMsg.Fence_to plan.op (source plan)) refl;
     };
     fence = record { phase = refl; store = refl; sends = refl };
     keeps = λ same. same;
@@ -129,20 +130,20 @@ module _ {R : Type 0} (f : Semantics R) (place : List ℕ → Option ℕ) where
   numbers-put (e ∷ events) cell = ap (λ xs. number e ∷ xs) (numbers-put events cell)
 
   event_same : (plan : MovePlan) (ph : Phase) (events : List FullCell) (cell : FullCell) → RowFollows plan events (on_event (words plan) ph events cell)
-      (on_event (r_words (outline_plan plan) (map number events)) (outline_phase ph) (map number events) (number cell))
+      (on_event (operation_words (outline_plan plan) (map number events)) (outline_phase ph) (map number events) (number cell))
   event_same plan ph events cell = event_follows (follows plan events) cell (number cell) (record { phase = refl; store = refl; sends = refl })
       (λ n m same. record { phase = same.phase; store = numbers-put events cell; sends = same.sends }) ph
 
   stays : (plan : MovePlan) (ph : Phase) (events : List FullCell)
-      → RowFollows plan events (keeps (next_phase ph [])) (real.r_goes (outline_phase ph) (map number events) [])
+      → RowFollows plan events (keeps (next_phase ph [])) (real.operation_turn (outline_phase ph) (map number events) [])
   stays plan ph events = record { phase = refl; store = refl; sends = refl }
 
   piece_same : (plan : MovePlan) (ph : Phase) (events : List FullCell) (p : APiece) → Each IsChunk p.chunks → NextFollows plan events
-      (on_piece (words plan) ph p) (on_piece (r_words (outline_plan plan) (map number events)) (outline_phase ph) (outline_piece f p))
+      (on_piece (words plan) ph p) (on_piece (operation_words (outline_plan plan) (map number events)) (outline_phase ph) (outline_piece f p))
   piece_same plan ph events p h = piece_follows (follows plan events) p (all_units p.chunks h) refl (λ q. record {
     phase = refl;
     store = refl;
-    sends = ap (λ us. (source plan, net.Mv net.everything (real.M_delete plan.op us)) ∷ []) (units_same p.chunks h);
+    sends = ap (λ us. (source plan, net.Of_move net.everything (MoveMsg.Delete plan.op us)) ∷ []) (units_same p.chunks h);
   }) ph
 
   refused_is : (why : Answer) → is_done why ≡ false → refused_by why ≡ Some why
@@ -150,56 +151,57 @@ module _ {R : Type 0} (f : Semantics R) (place : List ℕ → Option ℕ) where
   refused_is why e = refl
 
   source_fenced_same : (plan : MovePlan) (ph : Phase) (events : List FullCell) → IsRefusing ph → NextFollows plan events
-      (on_source_fenced (words plan) ph) (on_source_fenced (r_words (outline_plan plan) (map number events)) (outline_phase ph))
+      (on_source_fenced (words plan) ph) (on_source_fenced (operation_words (outline_plan plan) (map number events)) (outline_phase ph))
   source_fenced_same plan ph events h = source_fenced_follows (follows plan events) ph (λ why is. sym (refused_is why (subst IsRefusing is h)))
 
   -- A row, by the node that the message comes from.
   module _ (plan : MovePlan) (ph : Phase) (events : List FullCell) (sender : ℕ) where
-    abbrev pub Rows : Msg → real.Msg R → Type 0
+    abbrev pub Rows : Msg → MoveMsg R → Type 0
     Rows m seen = RowFollows plan events (row (record { plan = plan; phase = ph }) events sender m)
         (row_of (outline_plan plan) (outline_phase ph) (map number events) sender seen)
 
-    by_sender : (m : Msg) (seen : real.Msg R)
-        → RowFollows plan events (from_source plan ph events m) (real.r_from_source (outline_plan plan) (outline_phase ph) (map number events) seen)
-        → RowFollows plan events (from_destination plan ph events m) (real.r_from_destination (outline_plan plan) (outline_phase ph) (map number events) seen)
+    by_sender : (m : Msg) (seen : MoveMsg R)
+        → RowFollows plan events (from_source plan ph events m) (real.operation_from_source (outline_plan plan) (outline_phase ph) (map number events) seen)
+        → RowFollows plan events (from_destination plan ph events m)
+        (real.operation_from_destination (outline_plan plan) (outline_phase ph) (map number events) seen)
         → Rows m seen
     by_sender m seen at_source at_destination =
         split (sender == source plan)
         (λ a. RowFollows plan events
         (if a then from_source plan ph events m else if sender == destination plan then from_destination plan ph events m else keeps
-        (next_phase ph [])) (if a then real.r_from_source (outline_plan plan) (outline_phase ph)
-        (map number events) seen else if sender == destination plan then real.r_from_destination (outline_plan plan) (outline_phase ph)
-        (map number events) seen else real.r_goes (outline_phase ph) (map number events) []))
+        (next_phase ph [])) (if a then real.operation_from_source (outline_plan plan) (outline_phase ph)
+        (map number events) seen else if sender == destination plan then real.operation_from_destination (outline_plan plan) (outline_phase ph)
+        (map number events) seen else real.operation_turn (outline_phase ph) (map number events) []))
         (λ _. at_source)
         (λ _. split (sender == destination plan)
         (λ b. RowFollows plan events (if b then from_destination plan ph events m else keeps (next_phase ph []))
-        (if b then real.r_from_destination (outline_plan plan) (outline_phase ph) (map number events) seen else real.r_goes (outline_phase ph)
+        (if b then real.operation_from_destination (outline_plan plan) (outline_phase ph) (map number events) seen else real.operation_turn (outline_phase ph)
         (map number events) []))
         (λ _. at_destination) (λ _. stays plan ph events))
 
-    pub event_row : (op : ℕ) (cell : FullCell) → Rows (Msg.Event op cell) (real.M_event op (number cell))
-    event_row op cell = by_sender (Msg.Event op cell) (real.M_event op (number cell)) (event_same plan ph events cell) (stays plan ph events)
+    pub event_row : (op : ℕ) (cell : FullCell) → Rows (Msg.Event op cell) (MoveMsg.Event op (number cell))
+    event_row op cell = by_sender (Msg.Event op cell) (MoveMsg.Event op (number cell)) (event_same plan ph events cell) (stays plan ph events)
 
-    pub enabled_row : (op : ℕ) → Rows (Msg.Enabled op) (real.M_enabled op)
-    enabled_row op = by_sender (Msg.Enabled op) (real.M_enabled op) (source_enabled_follows (follows plan events) ph)
+    pub enabled_row : (op : ℕ) → Rows (Msg.Enabled op) (MoveMsg.Enabled op)
+    enabled_row op = by_sender (Msg.Enabled op) (MoveMsg.Enabled op) (source_enabled_follows (follows plan events) ph)
         (destination_enabled_follows (follows plan events) ph)
 
-    pub piece_row : (op : ℕ) (p : APiece) → Each IsChunk p.chunks → Rows (Msg.Piece op p) (real.M_piece op (outline_piece f p))
-    piece_row op p h = by_sender (Msg.Piece op p) (real.M_piece op (outline_piece f p)) (piece_same plan ph events p h) (stays plan ph events)
+    pub piece_row : (op : ℕ) (p : APiece) → Each IsChunk p.chunks → Rows (Msg.Piece op p) (MoveMsg.Piece op (outline_piece f p))
+    piece_row op p h = by_sender (Msg.Piece op p) (MoveMsg.Piece op (outline_piece f p)) (piece_same plan ph events p h) (stays plan ph events)
 
-    pub deleted_row : (op : ℕ) → Rows (Msg.Deleted op) (real.M_deleted op)
-    deleted_row op = by_sender (Msg.Deleted op) (real.M_deleted op) (deleted_follows (follows plan events) ph) (stays plan ph events)
+    pub deleted_row : (op : ℕ) → Rows (Msg.Deleted op) (MoveMsg.Deleted op)
+    deleted_row op = by_sender (Msg.Deleted op) (MoveMsg.Deleted op) (deleted_follows (follows plan events) ph) (stays plan ph events)
 
-    pub put_ok_row : (op : ℕ) → Rows (Msg.PutOk op) (real.M_put_ok op)
-    put_ok_row op = by_sender (Msg.PutOk op) (real.M_put_ok op) (stays plan ph events) (put_ok_follows (follows plan events) refl ph)
+    pub put_ok_row : (op : ℕ) → Rows (Msg.PutOk op) (MoveMsg.Put_ok op)
+    put_ok_row op = by_sender (Msg.PutOk op) (MoveMsg.Put_ok op) (stays plan ph events) (put_ok_follows (follows plan events) refl ph)
 
-    pub put_no_row : (op : ℕ) (refused : Refused) → Rows (Msg.PutNo op refused) (real.M_put_no op refused.why (entries f refused.chunks))
-    put_no_row op refused = by_sender (Msg.PutNo op refused) (real.M_put_no op refused.why (entries f refused.chunks)) (stays plan ph events)
+    pub put_no_row : (op : ℕ) (refused : Refused) → Rows (Msg.PutNo op refused) (MoveMsg.Put_no op refused.why (entries f refused.chunks))
+    put_no_row op refused = by_sender (Msg.PutNo op refused) (MoveMsg.Put_no op refused.why (entries f refused.chunks)) (stays plan ph events)
         (put_no_follows (follows plan events) refused.why (put_back refused.chunks) (real.put_back (entries f refused.chunks)) (λ last. refl) ph)
 
-    pub restored_row : (op : ℕ) → Rows (Msg.Restored op) (real.M_restored op)
-    restored_row op = by_sender (Msg.Restored op) (real.M_restored op) (restored_follows (follows plan events) ph) (stays plan ph events)
+    pub restored_row : (op : ℕ) → Rows (Msg.Restored op) (MoveMsg.Restored op)
+    restored_row op = by_sender (Msg.Restored op) (MoveMsg.Restored op) (restored_follows (follows plan events) ph) (stays plan ph events)
 
-    pub fenced_row : (op : ℕ) → IsRefusing ph → Rows (Msg.Fenced op) (real.M_fenced op)
-    fenced_row op refusing = by_sender (Msg.Fenced op) (real.M_fenced op) (source_fenced_same plan ph events refusing)
+    pub fenced_row : (op : ℕ) → IsRefusing ph → Rows (Msg.Fenced op) (MoveMsg.Fenced op)
+    fenced_row op refusing = by_sender (Msg.Fenced op) (MoveMsg.Fenced op) (source_fenced_same plan ph events refusing)
         (destination_fenced_follows (follows plan events) ph)

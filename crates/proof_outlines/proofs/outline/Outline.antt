@@ -3,8 +3,8 @@
 use Rattle.proof_outlines.proofs.Words.{◌≡◌, ℕ, Bool, Option, Some, None, List, [], ◌∷◌, map, refl, ap, ◌∙◌, if◌then◌else◌, ◌&&◌, ◌+◌, max, nat_lt, option_map}
 use Rattle.proof_outlines.proofs.Words.{filter_map, Filter, Packet, Site, meets, Chunk, unit_cmp, units_total, newest, Semantics, unit_at, version_number}
 use Rattle.proof_outlines.proofs.Words.{Records, same_unit, spelled, same_unit_equiv, Action, FullCell, Target, Answer, Order, Piece, Msg, Note, instance_node}
-use Rattle.proof_outlines.proofs.Words.{Instance, Chunks, RPiece, live_table, Sys, IsSys, Ruling, Room, MoveAsked, NumberedInstance, everything, Unit, Mark}
-use Rattle.proof_outlines.proofs.Words.{EventRule}
+use Rattle.proof_outlines.proofs.Words.{Instance, Chunks, MovePiece, live_table, Sys, IsSys, Ruling, Room, MoveAsked, NumberedInstance, everything, Unit, Mark}
+use Rattle.proof_outlines.proofs.Words.{EventRule, MoveMsg}
 use Rattle.std.specs.FinMap as finite
 use Rattle.proof_machines.proofs.unit.Machine as machine
 use Rattle.proof_machines.proofs.unit.Real as real
@@ -44,12 +44,12 @@ module _ {R : Type 0} (f : Semantics R) where
   newest_in [] = 1
   newest_in (c ∷ cs) = max (version_number (f.is_timed c.1)) (newest_in cs)
 
-  abbrev pub outline_piece : Piece → RPiece R
+  abbrev pub outline_piece : Piece → MovePiece R
   outline_piece p = record { chunks = entries p.chunks; total = p.total; newest = p.newest; last = p.last }
 
   -- a change of the rules between two instances
   abbrev pub outline_install : ℕ → Filter → ℕ → Target → Option (net.Msg R)
-  outline_install op filter from (Target.Instance to) = Some (net.Mv filter (real.M_install op (instance_node from) (instance_node to)))
+  outline_install op filter from (Target.Instance to) = Some (net.Of_move filter (MoveMsg.Install op (instance_node from) (instance_node to)))
   outline_install op filter from Target.Controller = None
 
   -- a message; nothing of those that no move looks at
@@ -58,22 +58,22 @@ module _ {R : Type 0} (f : Semantics R) where
   outline place (Msg.Carry Mark.Plain cell) = Some (net.Carry_on (number cell))
   outline place (Msg.Carry (Mark.Pass op) cell) = Some (net.Pass_on (number cell))
   outline place (Msg.Fence op) = Some (net.Fence_on op)
-  outline place (Msg.Forward to mark cell) = Some (net.Mv everything (real.M_forward (number cell) (instance_node to)))
+  outline place (Msg.Forward to mark cell) = Some (net.Of_move everything (MoveMsg.Forward (number cell) (instance_node to)))
   outline place (Msg.Install op filter from to) = outline_install op filter from to
-  outline place (Msg.FenceTo op to) = Some (net.Mv everything (real.M_fence_to op (instance_node to)))
-  outline place (Msg.Enable op filter action) = Some (net.Mv filter (real.M_enable op (rule_of action)))
-  outline place (Msg.Stream op filter) = Some (net.Mv filter (real.M_stream op))
-  outline place (Msg.Delete op gone) = Some (net.Mv everything (real.M_delete op gone))
-  outline place (Msg.Put op piece first) = Some (net.Mv everything (real.M_put op (outline_piece piece) first))
-  outline place (Msg.Restore op chunks) = Some (net.Mv everything (real.M_restore op (entries chunks)))
-  outline place (Msg.Enabled op) = Some (net.Mv everything (real.M_enabled op))
-  outline place (Msg.Event op cell) = Some (net.Mv everything (real.M_event op (number cell)))
-  outline place (Msg.Piece op piece) = Some (net.Mv everything (real.M_piece op (outline_piece piece)))
-  outline place (Msg.Deleted op) = Some (net.Mv everything (real.M_deleted op))
-  outline place (Msg.PutOk op) = Some (net.Mv everything (real.M_put_ok op))
-  outline place (Msg.PutNo op refused) = Some (net.Mv everything (real.M_put_no op refused.why (entries refused.chunks)))
-  outline place (Msg.Restored op) = Some (net.Mv everything (real.M_restored op))
-  outline place (Msg.Fenced op) = Some (net.Mv everything (real.M_fenced op))
+  outline place (Msg.FenceTo op to) = Some (net.Of_move everything (MoveMsg.Fence_to op (instance_node to)))
+  outline place (Msg.Enable op filter action) = Some (net.Of_move filter (MoveMsg.Enable op (rule_of action)))
+  outline place (Msg.Stream op filter) = Some (net.Of_move filter (MoveMsg.Stream op))
+  outline place (Msg.Delete op gone) = Some (net.Of_move everything (MoveMsg.Delete op gone))
+  outline place (Msg.Put op piece first) = Some (net.Of_move everything (MoveMsg.Put op (outline_piece piece) first))
+  outline place (Msg.Restore op chunks) = Some (net.Of_move everything (MoveMsg.Restore op (entries chunks)))
+  outline place (Msg.Enabled op) = Some (net.Of_move everything (MoveMsg.Enabled op))
+  outline place (Msg.Event op cell) = Some (net.Of_move everything (MoveMsg.Event op (number cell)))
+  outline place (Msg.Piece op piece) = Some (net.Of_move everything (MoveMsg.Piece op (outline_piece piece)))
+  outline place (Msg.Deleted op) = Some (net.Of_move everything (MoveMsg.Deleted op))
+  outline place (Msg.PutOk op) = Some (net.Of_move everything (MoveMsg.Put_ok op))
+  outline place (Msg.PutNo op refused) = Some (net.Of_move everything (MoveMsg.Put_no op refused.why (entries refused.chunks)))
+  outline place (Msg.Restored op) = Some (net.Of_move everything (MoveMsg.Restored op))
+  outline place (Msg.Fenced op) = Some (net.Of_move everything (MoveMsg.Fenced op))
   outline place message = None
 
   -- what is sent, each with its receiver
@@ -90,7 +90,7 @@ ran_in n = None
 
 module _ {R : Type 0} (f : Semantics R) (site : Site) (packet : ℕ → Packet) where
   -- why a piece that is put first is refused, if it is
-  abbrev pub refuses : Room → Records R → RPiece R → Option Answer
+  abbrev pub refuses : Room → Records R → MovePiece R → Option Answer
   refuses room t p =
       if nat_lt room.limit (finite.len t + p.total) then Some (Answer.Import (finite.len t) p.total room.limit)
       else if room.marked && nat_lt 1 p.newest then Some (Answer.Old p.newest 1)

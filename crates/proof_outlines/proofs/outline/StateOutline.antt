@@ -4,14 +4,14 @@ use Rattle.proof_outlines.proofs.Words.{if◌then◌else◌, cond, max, nat_le, 
 use Rattle.proof_outlines.proofs.Words.{takes, units_total, Semantics, record_chunk, version_number, Records, AreSound, taken_by, are_good, one_unit}
 use Rattle.proof_outlines.proofs.Words.{sound_retain_keys, valid_entries, spelled-record_chunk, Answer, Instance, WholePieces, newest_version, piece_of}
 use Rattle.proof_outlines.proofs.Words.{whole_of, pieces, to_controller, on_delete, piece_refusal, piece_put, Chunks, is_nil, Each, live_table, inst_step}
-use Rattle.proof_outlines.proofs.Words.{everything, to_ctrl, Unit, Msg, FunctionLaws, records_of, APiece, pieces_from}
+use Rattle.proof_outlines.proofs.Words.{everything, to_ctrl, Unit, Msg, FunctionLaws, records_of, APiece, pieces_from, MoveMsg}
 use Rattle.std.specs.FinMap as finite
 use Rattle.state_chunk.specs.Format.{record_bytes}
 use Rattle.record_table.specs.Chunks.{chunks_of}
 use Rattle.instance_worker.specs.Instance.{on_stream, on_put, on_restore}
 use Rattle.proof_machines.proofs.unit.Real as real
 use Rattle.proof_machines.proofs.unit.Cuts.{marks, chop, is_nil-chop}
-use Rattle.proof_machines.proofs.unit.SeenInst.{r_put}
+use Rattle.proof_machines.proofs.unit.SeenInst.{put_row}
 use Rattle.proof_machines.proofs.net.Net as net
 use Rattle.proof_outlines.proofs.outline.FiltersApart.{is_whole, unit_fits, takes_whole}
 use Rattle.proof_outlines.proofs.outline.Outline.{entries, outline_piece, outline_sends, newest_in, sys, outline_instance}
@@ -111,13 +111,13 @@ module _ {R : Type 0} (f : Semantics R) where
       ∙ sym (finite.get-retain_keys live (takes_whole f.kind g) u (λ x same. ap (takes_whole f.kind g) (sym (one_unit u x same)))))
 
 sends_pieces : {R : Type 0} (f : Semantics R) (place : List ℕ → Option ℕ) (op : ℕ) (ps : List APiece)
-    → outline_sends f place (to_controller (map (Msg.Piece op) ps)) ≡ map to_ctrl (map (λ p. real.M_piece op p) (map (outline_piece f) ps))
+    → outline_sends f place (to_controller (map (Msg.Piece op) ps)) ≡ map to_ctrl (map (λ p. MoveMsg.Piece op p) (map (outline_piece f) ps))
 sends_pieces f place op [] = refl
-sends_pieces f place op (p ∷ ps) = ap (λ xs. to_ctrl (real.M_piece op (outline_piece f p)) ∷ xs) (sends_pieces f place op ps)
+sends_pieces f place op (p ∷ ps) = ap (λ xs. to_ctrl (MoveMsg.Piece op (outline_piece f p)) ∷ xs) (sends_pieces f place op ps)
 
 module _ {F R : Type 0} (f : Semantics R) (laws : FunctionLaws f) (site : Site) (packet : ℕ → Packet) (place : List ℕ → Option ℕ) where
   pub stream_follows : (i : Instance F R) (op : ℕ) (g : Filter) → is_whole f.kind g ≡ true → HasRecords f i.table.live
-      → Follows f site packet place (on_stream f i op g) (inst_step (sys f site packet) (outline_instance f site packet i) (net.Mv g (real.M_stream op)))
+      → Follows f site packet place (on_stream f i op g) (inst_step (sys f site packet) (outline_instance f site packet i) (net.Of_move g (MoveMsg.Stream op)))
   unfolding on_stream
   stream_follows i op g w h =
       let es = finite.entries (taken_by g i.table.live) in
@@ -127,34 +127,35 @@ module _ {F R : Type 0} (f : Semantics R) (laws : FunctionLaws f) (site : Site) 
         node = refl;
         sends =
             sends_pieces f place op (pieces (chunks_of f (taken_by g i.table.live)))
-            ∙ ap (λ ps. map to_ctrl (map (λ p. real.M_piece op p) ps)) (pieces_same f laws es valid)
-            ∙ ap (λ t. map to_ctrl (map (λ p. real.M_piece op p)
+            ∙ ap (λ ps. map to_ctrl (map (λ p. MoveMsg.Piece op p) ps)) (pieces_same f laws es valid)
+            ∙ ap (λ t. map to_ctrl (map (λ p. MoveMsg.Piece op p)
             (marks (length (finite.entries t)) (newest_in f (finite.entries t)) (chop (length (finite.entries t)) (finite.entries t)))))
             (taken_same f g i.table.live w h);
         ran = refl;
       }
 
   pub delete_follows : (i : Instance F R) (op : ℕ) (gone : List Unit) → Follows f site packet place (on_delete i op gone)
-      (inst_step (sys f site packet) (outline_instance f site packet i) (net.Mv everything (real.M_delete op gone)))
+      (inst_step (sys f site packet) (outline_instance f site packet i) (net.Of_move everything (MoveMsg.Delete op gone)))
   delete_follows i op gone = record { node = refl; sends = refl; ran = refl }
 
   pub restore_follows : (i : Instance F R) (op : ℕ) (chunks : List Chunk) → are_good f chunks ≡ true → Follows f site packet place (on_restore f i op
-      chunks) (inst_step (sys f site packet) (outline_instance f site packet i) (net.Mv everything (real.M_restore op (entries f chunks))))
+      chunks) (inst_step (sys f site packet) (outline_instance f site packet i) (net.Of_move everything (MoveMsg.Restore op (entries f chunks))))
   unfolding on_restore records_of
   restore_follows i op chunks good = rw good (record { node = refl; sends = refl; ran = refl })
 
   pub put_follows : (i : Instance F R) (op : ℕ) (piece : APiece) (first : Bool) → are_good f piece.chunks ≡ true
       → nat_lt piece.total (length piece.chunks) ≡ false → Follows f site packet place (on_put f i op piece first)
-      (inst_step (sys f site packet) (outline_instance f site packet i) (net.Mv everything (real.M_put op (outline_piece f piece) first)))
+      (inst_step (sys f site packet) (outline_instance f site packet i) (net.Of_move everything (MoveMsg.Put op (outline_piece f piece) first)))
   unfolding on_put records_of
   put_follows i op piece true good all = rw all (by_refusal (piece_refusal i piece))
     where
       by_refusal : (o : Option Answer) → Follows f site packet place (piece_put f i op piece true o) (net.with_table (sys f site packet)
-          (outline_instance f site packet i) (r_put (sys f site packet).F (live_table f) op true o (outline_piece f piece) i.table.live))
+          (outline_instance f site packet i) (put_row (sys f site packet).F (live_table f) op true o (outline_piece f piece) i.table.live))
       by_refusal (Some why) = record { node = refl; sends = refl; ran = refl }
       by_refusal None = rw good (record { node = refl; sends = refl; ran = refl })
   put_follows i op piece false good all = rw (all, good) (record { node = refl; sends = by_last piece.last; ran = refl })
     where
-      by_last : (b : Bool) → outline_sends f place (to_controller (if b then Msg.PutOk op ∷ [] else [])) ≡ map to_ctrl (if b then real.M_put_ok op ∷ [] else [])
+      by_last : (b : Bool) → outline_sends f place (to_controller (if b then Msg.PutOk op ∷ [] else []))
+          ≡ map to_ctrl (if b then MoveMsg.Put_ok op ∷ [] else [])
       by_last true = refl
       by_last false = refl

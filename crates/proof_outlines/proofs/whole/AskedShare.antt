@@ -2,7 +2,7 @@
 use Rattle.proof_outlines.proofs.Words.{◌≡◌, ℕ, suc, ◌≤◌, Bool, true, false, Option, Some, None, List, [], ◌∷◌, length, refl, sym, ap, ◌∙◌, subst, arith}
 use Rattle.proof_outlines.proofs.Words.{if◌then◌else◌, ◌==◌, option_map, AllByRecursion, bytes_eq, nat_tests, Decides-eqb, IsDistinct-head, IsDistinct-tail}
 use Rattle.proof_outlines.proofs.Words.{Semantics, Command, Order, controller_node, instance_node, SwitchState, on_command, has, MoveAsked, Any, Old, New}
-use Rattle.proof_outlines.proofs.Words.{WantShare, S_asked, IsDistinct}
+use Rattle.proof_outlines.proofs.Words.{ShareAsked, ShareMsg, IsDistinct}
 use Rattle.proof_machines.proofs.share.Stages.{distinct}
 use Rattle.proof_machines.proofs.net.Net as net
 use Rattle.proof_outlines.proofs.outline.Outline.{want_of}
@@ -14,14 +14,15 @@ module _ {R : Type 0} (f : Semantics R) (place : List ℕ → Option ℕ) where
   asked_move op (Order.Move src dst filter keep) want e = ap (option_map (λ w. Old (net.Asked w))) e
   asked_move op what want e = cc
 
-  pub asked_share : (op : ℕ) (what : Order) (want : WantShare) → want_share_of place op what ≡ Some want → asked_of f place op what ≡ Some (New (S_asked want))
-  asked_share op (Order.Share members filter) want e = ap (option_map (λ w. New (S_asked w))) e
+  pub asked_share : (op : ℕ) (what : Order) (want : ShareAsked) → want_share_of place op what ≡ Some want → asked_of f place op what
+      ≡ Some (New (ShareMsg.Asked want))
+  asked_share op (Order.Share members filter) want e = ap (option_map (λ w. New (ShareMsg.Asked w))) e
   asked_share op what want e = cc
 
   pub asked_none : (op : ℕ) (what : Order) → want_of place op what ≡ None → want_share_of place op what ≡ None → asked_of f place op what ≡ None
   asked_none op (Order.Move src dst filter keep) a b = ap (option_map (λ w. Old (net.Asked w))) a
   asked_none op (Order.Copy src dst filter) a b = refl
-  asked_none op (Order.Share members filter) a b = ap (option_map (λ w. New (S_asked w))) b
+  asked_none op (Order.Share members filter) a b = ap (option_map (λ w. New (ShareMsg.Asked w))) b
 
   -- the switch hands it on
   pub command_all : (s : SwitchState) (c : Command) (m : Any R) → asked_of f place c.op c.what ≡ Some m
@@ -94,14 +95,14 @@ module _ (place : List ℕ → Option ℕ) where
         ap distinct m.nodes_are ∙ rw own (members_apart names m.others (IsDistinct-tail bytes_eq name names d) m.rest)
 
 -- a share that is asked for has the number of its command and its filter, and its members are those of the order; the first is its home
-pub record IsWanted (place : List ℕ → Option ℕ) (op : ℕ) (what : Order) (want : WantShare) : Type 0 where
+pub record IsWanted (place : List ℕ → Option ℕ) (op : ℕ) (what : Order) (want : ShareAsked) : Type 0 where
   pub names : List (List ℕ)
   pub order_is : what ≡ Order.Share names want.filter
   pub num : want.num ≡ op
   pub members : members_of place names ≡ Some want.members
   pub home : has want.members want.home ≡ true
 
-pub is_wanted : (place : List ℕ → Option ℕ) (op : ℕ) (what : Order) (want : WantShare) → want_share_of place op what ≡ Some want → IsWanted place op what want
+pub is_wanted : (place : List ℕ → Option ℕ) (op : ℕ) (what : Order) (want : ShareAsked) → want_share_of place op what ≡ Some want → IsWanted place op what want
 is_wanted place op (Order.Share names filter) want e = by_nodes (members_of place names) refl e
   where
     by_nodes : (o : Option (List ℕ)) → members_of place names ≡ o → share_between op filter o ≡ Some want → IsWanted place op (Order.Share names filter) want

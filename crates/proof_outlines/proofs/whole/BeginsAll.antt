@@ -3,8 +3,8 @@ use Rattle.proof_machines.proofs.NumberedLists.{find-append_own}
 use Rattle.proof_outlines.proofs.Words.{◌≡◌, ℕ, true, false, cond, Option, Some, None, List, [], ◌∷◌, ◌++◌, map, refl, sym, ap, ◌∙◌, subst, arith}
 use Rattle.proof_outlines.proofs.Words.{if◌then◌else◌, ◌==◌, filter_map, self, Filter, Packet, Site, Semantics, stored_of, instance_node, MovePlan}
 use Rattle.proof_outlines.proofs.Words.{move_at_start, CopyPlan, SharePlan, Operation, Move, Copy, Share, ControllerState, move_begin, copy_begin, share_begin}
-use Rattle.proof_outlines.proofs.Words.{begin_step, place_of, Open, MoveAsked, find_op, new_op, begin_sends, find_old, find_new, Any, New, WantShare, S_install}
-use Rattle.proof_outlines.proofs.Words.{S_get, OpenShare, find_share, new_share, as_old, Order}
+use Rattle.proof_outlines.proofs.Words.{begin_step, place_of, Open, MoveAsked, find_op, new_op, begin_sends, find_old, find_new, Any, New, ShareAsked, ShareMsg}
+use Rattle.proof_outlines.proofs.Words.{OpenShare, find_share, new_share, as_old, Order}
 use Rattle.std.specs.FinMap as finite
 use Rattle.copy_share.specs.Copy as copy
 use Rattle.copy_share.specs.Share as share
@@ -28,7 +28,7 @@ members_real place (name ∷ names) nodes e =
 -- what a copy asks for, as the network with shares sees it
 abbrev pub copy_sends : {R : Type 0} → ℕ → ℕ → Option Filter → List (ℕ × Any R)
 copy_sends op source None = []
-copy_sends op source (Some filter) = (source, New (S_get op filter)) ∷ []
+copy_sends op source (Some filter) = (source, New (ShareMsg.Get op filter)) ∷ []
 
 module _ {R : Type 0} (f : Semantics R) (at : Site) (packet : ℕ → Packet) (place : List ℕ → Option ℕ) (c : ControllerState)
     (ops : List (Open R)) (shares : List OpenShare) (h : OpensAll f place at ops shares c) (n : ℕ) (none : finite.get c.operations n ≡ None)
@@ -106,19 +106,19 @@ module _ {R : Type 0} (f : Semantics R) (at : Site) (packet : ℕ → Packet) (p
   }
 
   -- what is wanted of a share of these members
-  abbrev want_between : Filter → ℕ → List ℕ → WantShare
+  abbrev want_between : Filter → ℕ → List ℕ → ShareAsked
   want_between filter home others = record { num = n; home = instance_node home; members = instance_node home ∷ map instance_node others; filter = filter }
 
   abbrev plan_between : Filter → ℕ → List ℕ → SharePlan
   plan_between filter home others = record { op = n; members = home ∷ others; filter = filter; site = c.site }
 
-  abbrev shared_on : WantShare → List OpenShare
+  abbrev shared_on : ShareAsked → List OpenShare
   shared_on want = shares ++ new_share want ∷ []
 
   -- the step that begins a share of these members, for one that is wanted
-  abbrev Begun : Filter → List ℕ → WantShare → Type 0
+  abbrev Begun : Filter → List ℕ → ShareAsked → Type 0
   Begun filter members want = StepFollows f at packet place (share_begin c n filter members)
-      (record { ops = ops; shares = shared_on want; sends = (0, New (S_install want.num want.filter want.home)) ∷ [] })
+      (record { ops = ops; shares = shared_on want; sends = (0, New (ShareMsg.Install want.num want.filter want.home)) ∷ [] })
 
   share_seen : (filter : Filter) (home : ℕ) (others : List ℕ) → c.site ≡ at → SeesAny f place at (find_op ops n)
       (find_share (shared_on (want_between filter home others)) n) (Some (Share (share.share_at_start (plan_between filter home others)))) []
@@ -138,16 +138,16 @@ module _ {R : Type 0} (f : Semantics R) (at : Site) (packet : ℕ → Packet) (p
     sends = refl;
   }
 
-  by_members : (filter : Filter) (want : WantShare) (members : List ℕ) → c.site ≡ at → share_between n filter (Some (map instance_node members)) ≡ Some want
+  by_members : (filter : Filter) (want : ShareAsked) (members : List ℕ) → c.site ≡ at → share_between n filter (Some (map instance_node members)) ≡ Some want
       → Begun filter members want
   by_members filter want [] site e = cc
   by_members filter want (home ∷ others) site e =
       let same : want_between filter home others ≡ want = cc in subst (Begun filter (home ∷ others)) same (between filter home others site)
 
   -- A share begins.
-  pub share_begun : (names : List (List ℕ)) (filter : Filter) (want : WantShare) → place_of c.names ≡ place → c.site ≡ at
+  pub share_begun : (names : List (List ℕ)) (filter : Filter) (want : ShareAsked) → place_of c.names ≡ place → c.site ≡ at
       → want_share_of place n (Order.Share names filter) ≡ Some want → StepFollows f at packet place (begin_step c n (Order.Share names filter))
-      (record { ops = ops; shares = shares ++ new_share want ∷ []; sends = (0, New (S_install want.num want.filter want.home)) ∷ [] })
+      (record { ops = ops; shares = shares ++ new_share want ∷ []; sends = (0, New (ShareMsg.Install want.num want.filter want.home)) ∷ [] })
   share_begun names filter want placed site is = by_nodes (members_of place names) refl is
     where
       by_nodes : (o : Option (List ℕ)) → members_of place names ≡ o → share_between n filter o ≡ Some want

@@ -3,8 +3,8 @@
 use Rattle.proof_outlines.proofs.Words.{◌≡◌, ℕ, ◌<◌, Option, Some, None, List, [], map, length, refl, sym, ap, ◌∙◌, subst, append-nil, ◌==◌, option_map, Packet}
 use Rattle.proof_outlines.proofs.Words.{Site, Chunk, Semantics, spelled, FullCell, stored_of, Msg, MoveState, ShareState, Operation, Move, Copy, Share}
 use Rattle.proof_outlines.proofs.Words.{ControllerState, hand_step, Sys, Open, ControllerMove, everything, find_op, found, num_of, numbered, Any, ShareMsg, Old}
-use Rattle.proof_outlines.proofs.Words.{New, S_chunks, S_shared, S_synced, Sharing, OpenShare, find_share, Told, Is_fenced, Has_chunks, Has_chunk, Is_synced}
-use Rattle.proof_outlines.proofs.Words.{share_row, as_old, told_by, by_share, old_step, Each, by_if, Unit}
+use Rattle.proof_outlines.proofs.Words.{New, Sharing, OpenShare, find_share, Told, Is_fenced, Has_chunks, Has_chunk, Is_synced, share_row, as_old, told_by}
+use Rattle.proof_outlines.proofs.Words.{by_share, old_step, Each, by_if, Unit, MoveMsg}
 use Rattle.std.specs.FinMap as finite
 use Rattle.move_op.specs.Move as move
 use Rattle.copy_share.specs.Share as share
@@ -129,14 +129,14 @@ module _ {R : Type 0} (f : Semantics R) (at : Site) (packet : ℕ → Packet) (p
       let b = both f place at ops shares c n s h there in share_quiet f at packet place c ops shares h n s there b.e b.there b.sees port m quiet
 
   -- a move under the number, and what the abstract one does with the message
-  abbrev pub MoveRows : ℕ → Msg → real.Msg R → Type 0
+  abbrev pub MoveRows : ℕ → Msg → MoveMsg R → Type 0
   MoveRows port m pm = (mv : MoveState) → finite.get c.operations n ≡ Some (Move mv) → RowFollows f place mv.plan cells (move.row mv cells port m)
       (net.row_of (outline_plan mv.plan) (outline_phase f place mv.phase) (map number cells) port pm)
 
   -- A message that moves look at, and no share.
-  pub old_follows : (port : ℕ) (m : Msg) (pm : real.Msg R) → num_of pm ≡ Some n → told_by S A shares (Old (net.Mv everything pm)) ≡ None
-      → MoveRows port m pm → ((s : ShareState) → share.row s port m ≡ share.next_phase s.phase []) → Follows port m (Old (net.Mv everything pm))
-  old_follows port m pm num untold rows quiet = handled port m (Old (net.Mv everything pm)) (record {
+  pub old_follows : (port : ℕ) (m : Msg) (pm : MoveMsg R) → num_of pm ≡ Some n → told_by S A shares (Old (net.Of_move everything pm)) ≡ None
+      → MoveRows port m pm → ((s : ShareState) → share.row s port m ≡ share.next_phase s.phase []) → Follows port m (Old (net.Of_move everything pm))
+  old_follows port m pm num untold rows quiet = handled port m (Old (net.Of_move everything pm)) (record {
     moved = λ o. found ops n port pm o;
     told = λ o. None;
     moved_none = refl;
@@ -148,16 +148,16 @@ module _ {R : Type 0} (f : Semantics R) (at : Site) (packet : ℕ → Packet) (p
   })
 
   -- A fence's answer, at which both may look.
-  pub fenced_follows : (port : ℕ) → Each (IsGenuine at packet) cells → MoveRows port (Msg.Fenced n) (real.M_fenced n)
-      → Follows port (Msg.Fenced n) (Old (net.Mv everything (real.M_fenced n)))
-  fenced_follows port genuine rows = handled port (Msg.Fenced n) (Old (net.Mv everything (real.M_fenced n))) (record {
-    moved = λ o. found ops n port (real.M_fenced n) o;
+  pub fenced_follows : (port : ℕ) → Each (IsGenuine at packet) cells → MoveRows port (Msg.Fenced n) (MoveMsg.Fenced n)
+      → Follows port (Msg.Fenced n) (Old (net.Of_move everything (MoveMsg.Fenced n)))
+  fenced_follows port genuine rows = handled port (Msg.Fenced n) (Old (net.Of_move everything (MoveMsg.Fenced n))) (record {
+    moved = λ o. found ops n port (MoveMsg.Fenced n) o;
     told = λ o. option_map (λ e. (e, Is_fenced)) o;
     moved_none = refl;
     told_none = refl;
     old_is = refl;
     told_is = refl;
-    of_move = λ mv there. move_handed f at packet place c ops shares h n mv there port (Msg.Fenced n) (real.M_fenced n) (rows mv there);
+    of_move = λ mv there. move_handed f at packet place c ops shares h n mv there port (Msg.Fenced n) (MoveMsg.Fenced n) (rows mv there);
     of_share = λ s there. told_share port (Msg.Fenced n) Is_fenced s there (λ is some. fenced_rows f at packet place s cells port is some genuine n);
   })
 
@@ -189,21 +189,21 @@ module _ {R : Type 0} (f : Semantics R) (at : Site) (packet : ℕ → Packet) (p
   })
 
   pub chunks_follows : (port : ℕ) (chunks : List Chunk) → Each (IsGenuine at packet) cells → Going
-      → Follows port (Msg.Chunks n chunks) (New (S_chunks n (entries f chunks)))
+      → Follows port (Msg.Chunks n chunks) (New (ShareMsg.Chunks n (entries f chunks)))
   chunks_follows port chunks genuine going =
-      told_follows port (Msg.Chunks n chunks) (S_chunks n (entries f chunks)) (Has_chunks (entries f chunks)) refl going
+      told_follows port (Msg.Chunks n chunks) (ShareMsg.Chunks n (entries f chunks)) (Has_chunks (entries f chunks)) refl going
       (λ mv events. unlooked mv events port (Msg.Chunks n chunks) refl refl)
       (λ s is some. chunks_rows f at packet place s cells port is some genuine n chunks)
 
   pub shared_follows : (port : ℕ) (chunk : Chunk) (entry : Unit × R) → spelled f chunk ≡ Some entry → Each (IsGenuine at packet) cells → Going
-      → Follows port (Msg.Shared n chunk) (New (S_shared n entry))
+      → Follows port (Msg.Shared n chunk) (New (ShareMsg.Shared n entry))
   shared_follows port chunk entry spells genuine going =
-      told_follows port (Msg.Shared n chunk) (S_shared n entry) (Has_chunk entry) refl going
+      told_follows port (Msg.Shared n chunk) (ShareMsg.Shared n entry) (Has_chunk entry) refl going
       (λ mv events. unlooked mv events port (Msg.Shared n chunk) refl refl)
       (λ s is some. shared_rows f at packet place s cells port is some genuine n chunk entry spells)
 
-  pub synced_follows : (port : ℕ) → Each (IsGenuine at packet) cells → Going → Follows port (Msg.Synced n) (New (S_synced n))
-  synced_follows port genuine going = told_follows port (Msg.Synced n) (S_synced n) Is_synced refl going
+  pub synced_follows : (port : ℕ) → Each (IsGenuine at packet) cells → Going → Follows port (Msg.Synced n) (New (ShareMsg.Synced n))
+  synced_follows port genuine going = told_follows port (Msg.Synced n) (ShareMsg.Synced n) Is_synced refl going
       (λ mv events. unlooked mv events port (Msg.Synced n) refl refl)
       (λ s is some. synced_rows f at packet place s cells port is some genuine n)
 

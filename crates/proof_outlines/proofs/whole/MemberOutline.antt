@@ -3,7 +3,7 @@ use Rattle.proof_outlines.proofs.Words.{◌≡◌, ℕ, Bool, true, false, Optio
 use Rattle.proof_outlines.proofs.Words.{filter_map, Filter, Packet, Site, Chunk, takes, Semantics, is_sound, unit_at, record_chunk, Records, AreSound, part}
 use Rattle.proof_outlines.proofs.Words.{after_packet, taken_by, are_good, sound_retain_keys, valid_entries, spelled-record_chunk, FullCell, switch_node}
 use Rattle.proof_outlines.proofs.Words.{controller_node, Instance, to_controller, chunk_told, process, New, ShareMsg, MemberTurn, member_step, shared_chunk}
-use Rattle.proof_outlines.proofs.Words.{Shared_on, S_get, S_sync, S_chunks, S_shared, Unit, Mark, Msg, FunctionLaws, records_of}
+use Rattle.proof_outlines.proofs.Words.{Shared_on, Unit, Mark, Msg, FunctionLaws, records_of}
 use Rattle.std.specs.FinMap as finite
 use Rattle.record_table.specs.Chunks.{chunks_of}
 use Rattle.instance_worker.specs.Instance.{Step, process_step, on_carry, on_get, on_sync}
@@ -25,7 +25,7 @@ module _ {R : Type 0} (f : Semantics R) (laws : FunctionLaws f) where
   -- the chunk of a record that a packet left; that the packet's cell goes back isn't seen
   chunk_sent : (place : List ℕ → Option ℕ) (op : ℕ) (cell : FullCell) (u : Unit) (o : Option R) → is_sound f u o ≡ true
       → outline_all f place (to_controller (chunk_told op (option_map (record_chunk f u) o)) ++ (switch_node, Msg.Credit cell) ∷ [])
-      ≡ option_map_or (λ r. (controller_node, New (S_shared op (u, r))) ∷ []) o []
+      ≡ option_map_or (λ r. (controller_node, New (ShareMsg.Shared op (u, r))) ∷ []) o []
   chunk_sent place op cell u None sound = refl
   chunk_sent place op cell u (Some r) sound = let spells = spelled-record_chunk f laws u r sound in rw spells refl
 
@@ -52,7 +52,7 @@ module _ {F R : Type 0} (f : Semantics R) (laws : FunctionLaws f) (site : Site) 
       let after = after_packet f i.site t cell.packet in
       let unit_is : u ≡ unit_at f.kind site (packet (number cell)) = ap (λ s. unit_at f.kind s cell.packet) ok.at ∙ ap (unit_at f.kind site) g.same in
       chunk_sent f laws place op cell u (finite.get after u) (sound u)
-      ∙ ap (λ v. option_map_or (λ r. (controller_node, New (S_shared op (v, r))) ∷ []) (finite.get after v) []) unit_is
+      ∙ ap (λ v. option_map_or (λ r. (controller_node, New (ShareMsg.Shared op (v, r))) ∷ []) (finite.get after v) []) unit_is
       ∙ ap (shared_chunk (sys f site packet) (sharing f site packet) op (number cell)) (after_same f site packet t i.site cell ok.at g)
 
   -- A packet of a share: no event rule takes it.
@@ -73,17 +73,18 @@ module _ {F R : Type 0} (f : Semantics R) (laws : FunctionLaws f) (site : Site) 
     ran = refl;
   }
 
-  pub get_follows : (i : Instance F R) (op : ℕ) (g : Filter) → is_whole f.kind g ≡ true → HasRecords f i.table.live → Member i (on_get f i op g) (S_get op g)
+  pub get_follows : (i : Instance F R) (op : ℕ) (g : Filter) → is_whole f.kind g ≡ true → HasRecords f i.table.live
+      → Member i (on_get f i op g) (ShareMsg.Get op g)
   unfolding on_get
   get_follows i op g whole h = record {
     node = refl;
     standby = refl;
-    sends = ap (λ es. (controller_node, New (S_chunks op es)) ∷ []) (chunks_spell f laws g i.table.live whole h);
+    sends = ap (λ es. (controller_node, New (ShareMsg.Chunks op es)) ∷ []) (chunks_spell f laws g i.table.live whole h);
     ran = refl;
   }
 
   pub sync_follows : (i : Instance F R) (home : Bool) (op : ℕ) (chunks : List Chunk) → are_good f chunks ≡ true
-      → Member i (on_sync f i home op chunks) (S_sync op home (entries f chunks))
+      → Member i (on_sync f i home op chunks) (ShareMsg.Sync op home (entries f chunks))
   unfolding on_sync records_of
   sync_follows i true op chunks good = rw good (record { node = refl; standby = refl; sends = refl; ran = refl })
   sync_follows i false op chunks good = rw good (record { node = refl; standby = refl; sends = refl; ran = refl })

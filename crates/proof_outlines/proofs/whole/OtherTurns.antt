@@ -5,7 +5,7 @@ use Rattle.proof_outlines.proofs.Words.{◌≡◌, ℕ, true, false, cond, Optio
 use Rattle.proof_outlines.proofs.Words.{unwrap_or, Decides-eqb, self, Packet, Site, Semantics, FullCell, stored_of, Answer, Msg, switch_node, instance_node}
 use Rattle.proof_outlines.proofs.Words.{MoveState, Store, row_in, CopyPhase, Getting, Keeping, CopyPlan, CopyState, CopyRow, Operation, Move, Copy, Turn}
 use Rattle.proof_outlines.proofs.Words.{turn_of, turn_of_move, turn_of_copy, ControllerState, Step, still, after_turn, takes_turn, hand_step, Open, find_op}
-use Rattle.proof_outlines.proofs.Words.{found, find_write_other, OpenShare, find_share, as_old, split, by_if}
+use Rattle.proof_outlines.proofs.Words.{found, find_write_other, OpenShare, find_share, as_old, split, by_if, MoveMsg}
 use Rattle.std.specs.FinMap as finite
 use Rattle.move_op.specs.Move as move
 use Rattle.copy_share.specs.Copy as copy
@@ -209,7 +209,7 @@ module _ {R : Type 0} (f : Semantics R) (at : Site) (packet : ℕ → Packet) (p
           }) own h
 
       -- A message that the move may look at.
-      pub move_handed : (port : ℕ) (m : Msg) (pm : real.Msg R) → RowFollows f place mv.plan cells (move.row mv cells port m)
+      pub move_handed : (port : ℕ) (m : Msg) (pm : MoveMsg R) → RowFollows f place mv.plan cells (move.row mv cells port m)
           (net.row_of (outline_plan mv.plan) (outline_phase f place mv.phase) (map number cells) port pm)
           → StepFollows f at packet place (hand_step c n port m)
           (record { ops = (found ops n port pm (find_op ops n)).ops; shares = shares; sends = as_old (found ops n port pm (find_op ops n)).sends })

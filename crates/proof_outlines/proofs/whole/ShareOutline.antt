@@ -1,10 +1,10 @@
 -- The outline of an open share: what it does with a message, and then serves, is the row of the abstract network.
-use Rattle.proof_outlines.proofs.Words.{◌≡◌, ℕ, zero, suc, ◌<◌, ◌+◌, Option, Some, None, List, [], ◌∷◌, ◌++◌, map, length, refl, sym, ap}
-use Rattle.proof_outlines.proofs.Words.{◌∙◌, subst, arith, if◌then◌else◌, ◌==◌, ◌%◌, not, slice_index, unwrap_or, mod_below, length-map, map-append}
-use Rattle.proof_outlines.proofs.Words.{nat_tests, Flow, Packet, Site, flow_of, Chunk, Chunks, Semantics, spelled, FullCell, Msg, instance_node, SharePhase}
-use Rattle.proof_outlines.proofs.Words.{SharePlan, ShareState, ShareRow, Served, home, others, member_of, service_if_idle, Each, each-append, without_number}
-use Rattle.proof_outlines.proofs.Words.{Sys, New, S_sync, Sharing, OpenShare, Told, Is_fenced, Has_chunks, Has_chunk, Is_synced, Has_packet, ShareTurn}
-use Rattle.proof_outlines.proofs.Words.{share_row, Unit, split, cond, true, false}
+use Rattle.proof_outlines.proofs.Words.{◌≡◌, ℕ, zero, suc, ◌<◌, ◌+◌, Option, Some, None, List, [], ◌∷◌, ◌++◌, map, length, refl, sym, ap, ◌∙◌, subst, arith}
+use Rattle.proof_outlines.proofs.Words.{if◌then◌else◌, ◌==◌, ◌%◌, not, slice_index, unwrap_or, mod_below, length-map, map-append, nat_tests, Flow, Packet, Site}
+use Rattle.proof_outlines.proofs.Words.{flow_of, Chunk, Chunks, Semantics, spelled, FullCell, Msg, instance_node, SharePhase, SharePlan, ShareState, ShareRow}
+use Rattle.proof_outlines.proofs.Words.{Served, home, others, member_of, service_if_idle, Each, each-append, without_number, Sys, New, ShareMsg, Sharing}
+use Rattle.proof_outlines.proofs.Words.{OpenShare, Told, Is_fenced, Has_chunks, Has_chunk, Is_synced, Has_packet, ShareTurn, share_row, Unit, split, cond, true}
+use Rattle.proof_outlines.proofs.Words.{false}
 use Rattle.std.specs.Prelude.{filter}
 use Rattle.copy_share.specs.Share.{next_phase, row, words}
 use Rattle.copy_share.specs.Share as shares
@@ -97,7 +97,7 @@ module _ {R : Type 0} (f : Semantics R) (at : Site) (packet : ℕ → Packet) (p
 
   -- the chunks go to each of these
   syncs_each : (plan : SharePlan) (chunks : List Chunk) (ms : List ℕ)
-      → map (λ m. (m, New (S_sync plan.op (m == instance_node (home plan)) (entries f chunks)))) (map instance_node ms)
+      → map (λ m. (m, New (ShareMsg.Sync plan.op (m == instance_node (home plan)) (entries f chunks)))) (map instance_node ms)
       ≡ outline_all f place (map (λ member. (instance_node member, Msg.Sync (member == home plan) plan.op chunks)) ms)
   syncs_each plan chunks [] = refl
   syncs_each plan chunks (m ∷ ms) = rw (syncs_each plan chunks ms, same_node m (home plan)) refl

@@ -4,8 +4,8 @@ use Rattle.proof_outlines.proofs.Words.{◌≡◌, ℕ, zero, suc, Bool, true, f
 use Rattle.proof_outlines.proofs.Words.{◌==◌, nat_lt, option_map, unwrap_or, nat_tests, and_parts, Filter, Flow, Packet, Site, matches, flow_of, Kind, unit_of}
 use Rattle.proof_outlines.proofs.Words.{Semantics, unit_at, Target, first_match, target_eq, Redirect, redirected_target, rules_redirected, AreFilters, FullCell}
 use Rattle.proof_outlines.proofs.Words.{controller_node, instance_node, SwitchState, has_room, is_there, goes_to, on_packet, on_install, sends_to_instance}
-use Rattle.proof_outlines.proofs.Words.{stop_messages, target_of, sw_target, sw_sends, everything, as_old, arrive_sends, share_target, share_sends, S_install}
-use Rattle.proof_outlines.proofs.Words.{S_forward, split, Unit, Mark, Msg}
+use Rattle.proof_outlines.proofs.Words.{stop_messages, target_of, sw_target, sw_sends, everything, as_old, arrive_sends, share_target, share_sends, ShareMsg}
+use Rattle.proof_outlines.proofs.Words.{split, Unit, Mark, Msg, MoveMsg}
 use Rattle.switch_rules.proofs.RedirectLaws.{redirected_law}
 use Rattle.proof_machines.proofs.unit.Real as real
 use Rattle.proof_machines.proofs.net.Net as net
@@ -66,19 +66,19 @@ module _ {R : Type 0} (f : Semantics R) (site : Site) (packet : ℕ → Packet) 
 
   pub forward_shared : (s : SwitchState) (i op : ℕ) (home : Bool) (cell : FullCell) → nat_lt i s.instances ≡ true
       → outline_all f place (sends_to_instance s i (Msg.Carry (Mark.Shared op home) cell)).sends
-      ≡ share_sends (sys f site packet) (sharing f site packet) (S_forward op home (number cell) (instance_node i))
+      ≡ share_sends (sys f site packet) (sharing f site packet) (ShareMsg.Forward op home (number cell) (instance_node i))
   forward_shared s i op home cell there = rw there refl
 
   pub fence_all : (s : SwitchState) (i op : ℕ) → nat_lt i s.instances ≡ true
-      → outline_all f place (sends_to_instance s i (Msg.Fence op)).sends ≡ as_old (sw_sends (net.Mv everything (real.M_fence_to op (instance_node i))))
+      → outline_all f place (sends_to_instance s i (Msg.Fence op)).sends ≡ as_old (sw_sends (net.Of_move everything (MoveMsg.Fence_to op (instance_node i))))
   fence_all s i op there = rw there refl
 
   pub install_moved : (s : SwitchState) (op : ℕ) (g : Filter) (from to : ℕ) → nat_lt from s.instances ≡ true → nat_lt to s.instances ≡ true → outline_all f
-      place (on_install s op g from (Target.Instance to)).sends ≡ as_old (sw_sends (net.Mv g (real.M_install op (instance_node from) (instance_node to))))
+      place (on_install s op g from (Target.Instance to)).sends ≡ as_old (sw_sends (net.Of_move g (MoveMsg.Install op (instance_node from) (instance_node to))))
   install_moved s op g from to a b = rw (a, b) refl
 
   pub install_shared : (s : SwitchState) (op : ℕ) (g : Filter) (from : ℕ) → nat_lt from s.instances ≡ true → outline_all f place
-      (on_install s op g from Target.Controller).sends ≡ share_sends (sys f site packet) (sharing f site packet) (S_install op g (instance_node from))
+      (on_install s op g from Target.Controller).sends ≡ share_sends (sys f site packet) (sharing f site packet) (ShareMsg.Install op g (instance_node from))
   install_shared s op g from a = rw a refl
 
   -- stops aren't seen
@@ -129,10 +129,10 @@ module _ {R : Type 0} (f : Semantics R) (site : Site) (packet : ℕ → Packet) 
   -- after that of a move, and of a share
   pub routes_moved : (s : SwitchState) (to : Unit → ℕ) (op : ℕ) (g : Filter) (from dst : ℕ) → AreFilters s.rules → is_whole f.kind g ≡ true
       → nat_lt from s.instances ≡ true → nat_lt dst s.instances ≡ true → RoutesAll f.kind s to → RoutesAll f.kind (on_install s op g from
-      (Target.Instance dst)).node (λ u. sw_target (sys f site packet) to (net.Mv g (real.M_install op (instance_node from) (instance_node dst))) u)
+      (Target.Instance dst)).node (λ u. sw_target (sys f site packet) to (net.Of_move g (MoveMsg.Install op (instance_node from) (instance_node dst))) u)
   routes_moved s to op g from dst filters whole a b routes = routes_next s to op g from (Target.Instance dst) filters whole a b routes
 
   pub routes_shared : (s : SwitchState) (to : Unit → ℕ) (op : ℕ) (g : Filter) (from : ℕ) → AreFilters s.rules → is_whole f.kind g ≡ true
       → nat_lt from s.instances ≡ true → RoutesAll f.kind s to → RoutesAll f.kind (on_install s op g from Target.Controller).node
-      (λ u. share_target (sys f site packet) (sharing f site packet) to (S_install op g (instance_node from)) u)
+      (λ u. share_target (sys f site packet) (sharing f site packet) to (ShareMsg.Install op g (instance_node from)) u)
   routes_shared s to op g from filters whole a routes = routes_next s to op g from Target.Controller filters whole a refl routes

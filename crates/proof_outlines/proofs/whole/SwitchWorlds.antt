@@ -2,7 +2,7 @@
 use Rattle.proof_outlines.proofs.Words.{◌≡◌, ℕ, Bool, true, false, Option, Some, List, [], ◌++◌, refl, sym, ap, if◌then◌else◌, ◌==◌, nat_lt, Filter, Packet}
 use Rattle.proof_outlines.proofs.Words.{Site, flow_of, Semantics, Target, AreFilters, FullCell, Command, instance_node, SwitchState, arrival_step, goes_to}
 use Rattle.proof_outlines.proofs.Words.{has_room, target_of, on_packet, on_command, on_install, sends_to_instance, sent_for, links_after, everything, Any, Old}
-use Rattle.proof_outlines.proofs.Words.{New, WholeWorld, S_install, S_forward, whole_switch, whole_input, asks, Mark, Msg}
+use Rattle.proof_outlines.proofs.Words.{New, WholeWorld, ShareMsg, whole_switch, whole_input, asks, Mark, Msg, MoveMsg}
 use Rattle.switch_node.specs.Switch.{Step, still}
 use Rattle.proof_machines.proofs.unit.Real as real
 use Rattle.proof_machines.proofs.net.Net as net
@@ -63,18 +63,19 @@ module _ {R : Type 0} (f : Semantics R) (site : Site) (packet : ℕ → Packet) 
       sent_as xs a b = links_after w.link p 0 xs a b
 
       pub shared_goes : (i op : ℕ) (home : Bool) (cell : FullCell) → nat_lt i s.instances ≡ true
-          → SwitchesTo p (whole_switch (S f site packet) (A f site packet) w p (New (S_forward op home (number cell) (instance_node i))))
+          → SwitchesTo p (whole_switch (S f site packet) (A f site packet) w p (New (ShareMsg.Forward op home (number cell) (instance_node i))))
           (sends_to_instance s i (Msg.Carry (Mark.Shared op home) cell))
       shared_goes i op home cell there =
           record { routes = rw there routes; links = λ a b. ap (λ xs. sent_as xs a b) (sym (forward_shared f site packet place s i op home cell there)) }
 
       pub fence_goes : (i op : ℕ) → nat_lt i s.instances ≡ true → SwitchesTo p (whole_switch (S f site packet) (A f site packet) w p
-          (Old (net.Mv everything (real.M_fence_to op (instance_node i))))) (sends_to_instance s i (Msg.Fence op))
+          (Old (net.Of_move everything (MoveMsg.Fence_to op (instance_node i))))) (sends_to_instance s i (Msg.Fence op))
       fence_goes i op there = record { routes = rw there routes; links = λ a b. ap (λ xs. sent_as xs a b) (sym (fence_all f site packet place s i op there)) }
 
       pub move_installs : (op : ℕ) (g : Filter) (from to : ℕ) → AreFilters s.rules
           → is_whole f.kind g ≡ true → nat_lt from s.instances ≡ true → nat_lt to s.instances ≡ true
-          → SwitchesTo p (whole_switch (S f site packet) (A f site packet) w p (Old (net.Mv g (real.M_install op (instance_node from) (instance_node to)))))
+          → SwitchesTo p (whole_switch (S f site packet) (A f site packet) w p
+          (Old (net.Of_move g (MoveMsg.Install op (instance_node from) (instance_node to)))))
           (on_install s op g from (Target.Instance to))
       move_installs op g from to filters whole a b = record {
         routes = routes_moved f site packet place s w.target op g from to filters whole a b routes;
@@ -82,7 +83,7 @@ module _ {R : Type 0} (f : Semantics R) (site : Site) (packet : ℕ → Packet) 
       }
 
       pub share_installs : (op : ℕ) (g : Filter) (from : ℕ) → AreFilters s.rules → is_whole f.kind g ≡ true → nat_lt from s.instances ≡ true → SwitchesTo p
-          (whole_switch (S f site packet) (A f site packet) w p (New (S_install op g (instance_node from)))) (on_install s op g from Target.Controller)
+          (whole_switch (S f site packet) (A f site packet) w p (New (ShareMsg.Install op g (instance_node from)))) (on_install s op g from Target.Controller)
       share_installs op g from filters whole a = record {
         routes = routes_shared f site packet place s w.target op g from filters whole a routes;
         links = λ i j. ap (λ xs. sent_as xs i j) (sym (install_shared f site packet place s op g from a));

@@ -3,8 +3,7 @@
 use Rattle.proof_outlines.proofs.Words.{◌≡◌, ℕ, zero, suc, ◌<◌, true, Option, Some, None, List, [], ◌∷◌, length, refl, sym, ap, ◌∙◌, arith, ◌==◌, option_map}
 use Rattle.proof_outlines.proofs.Words.{slice_index, filter_map, mod_below, nat_tests, Filter, Flow, Packet, Site, flow_of, place_among, units_total, Semantics}
 use Rattle.proof_outlines.proofs.Words.{either, replaced_by, spelled, get-joined, Order, Msg, instance_node, Each, record_at, has, over, Any, Old, New}
-use Rattle.proof_outlines.proofs.Words.{WantShare, Sharing, IsSharing, olds, as_old, Shared_on, Diverted_on, S_asked, S_install, S_forward, S_get, S_sync}
-use Rattle.proof_outlines.proofs.Words.{S_chunks, S_shared, S_synced, by_if, Mark, Target}
+use Rattle.proof_outlines.proofs.Words.{ShareAsked, Sharing, IsSharing, olds, as_old, Shared_on, Diverted_on, ShareMsg, by_if, Mark, Target}
 use Rattle.std.specs.FinMap as finite
 use Rattle.proof_machines.proofs.net.Net as net
 use Rattle.proof_outlines.proofs.outline.Outline.{number, want_of, entries, outline, outline_sends, sys}
@@ -20,19 +19,19 @@ members_of place [] = Some []
 members_of place (name ∷ names) = with_member (place name) (members_of place names)
 
 -- a share between nodes, the first of which is its home
-abbrev pub share_between : ℕ → Filter → Option (List ℕ) → Option WantShare
+abbrev pub share_between : ℕ → Filter → Option (List ℕ) → Option ShareAsked
 share_between op filter (Some (home ∷ others)) = Some (record { num = op; home = home; members = home ∷ others; filter = filter })
 share_between op filter nodes = None
 
 -- the share that a command asks for, by the places of instances' names
-abbrev pub want_share_of : (List ℕ → Option ℕ) → ℕ → Order → Option WantShare
+abbrev pub want_share_of : (List ℕ → Option ℕ) → ℕ → Order → Option ShareAsked
 want_share_of place op (Order.Share members filter) = share_between op filter (members_of place members)
 want_share_of place op what = None
 
 module _ {R : Type 0} (f : Semantics R) where
   -- what a command asks for: a move, or a share
   abbrev pub asked_of : (List ℕ → Option ℕ) → ℕ → Order → Option (Any R)
-  asked_of place op (Order.Share members filter) = option_map (λ want. New (S_asked want)) (want_share_of place op (Order.Share members filter))
+  asked_of place op (Order.Share members filter) = option_map (λ want. New (ShareMsg.Asked want)) (want_share_of place op (Order.Share members filter))
   asked_of place op what = option_map (λ want. Old (net.Asked want)) (want_of place op what)
 
   -- a message, of a move or of a share; nothing of those that neither looks at
@@ -40,13 +39,13 @@ module _ {R : Type 0} (f : Semantics R) where
   outline_any place (Msg.Asked c) = asked_of place c.op c.what
   outline_any place (Msg.Carry (Mark.Shared op home) cell) = Some (New (Shared_on op home (number cell)))
   outline_any place (Msg.Diverted cell) = Some (New (Diverted_on (number cell)))
-  outline_any place (Msg.Install op filter from Target.Controller) = Some (New (S_install op filter (instance_node from)))
-  outline_any place (Msg.Forward to (Mark.Shared op home) cell) = Some (New (S_forward op home (number cell) (instance_node to)))
-  outline_any place (Msg.Get op filter) = Some (New (S_get op filter))
-  outline_any place (Msg.Sync home op chunks) = Some (New (S_sync op home (entries f chunks)))
-  outline_any place (Msg.Chunks op chunks) = Some (New (S_chunks op (entries f chunks)))
-  outline_any place (Msg.Shared op chunk) = option_map (λ entry. New (S_shared op entry)) (spelled f chunk)
-  outline_any place (Msg.Synced op) = Some (New (S_synced op))
+  outline_any place (Msg.Install op filter from Target.Controller) = Some (New (ShareMsg.Install op filter (instance_node from)))
+  outline_any place (Msg.Forward to (Mark.Shared op home) cell) = Some (New (ShareMsg.Forward op home (number cell) (instance_node to)))
+  outline_any place (Msg.Get op filter) = Some (New (ShareMsg.Get op filter))
+  outline_any place (Msg.Sync home op chunks) = Some (New (ShareMsg.Sync op home (entries f chunks)))
+  outline_any place (Msg.Chunks op chunks) = Some (New (ShareMsg.Chunks op (entries f chunks)))
+  outline_any place (Msg.Shared op chunk) = option_map (λ entry. New (ShareMsg.Shared op entry)) (spelled f chunk)
+  outline_any place (Msg.Synced op) = Some (New (ShareMsg.Synced op))
   outline_any place message = option_map Old (outline f place message)
 
   -- what is sent, each with its receiver
@@ -81,7 +80,8 @@ module _ {R : Type 0} (f : Semantics R) where
       mapped None = refl
       mapped (Some want) = refl
   asked_same place op (Order.Copy src dst filter) = refl
-  asked_same place op (Order.Share members filter) = new_is (λ want. New (S_asked want)) (λ want. refl) (want_share_of place op (Order.Share members filter))
+  asked_same place op (Order.Share members filter) =
+      new_is (λ want. New (ShareMsg.Asked want)) (λ want. refl) (want_share_of place op (Order.Share members filter))
 
   -- what moves see of a message of either
   pub old_same : (place : List ℕ → Option ℕ) (m : Msg) → old_of (outline_any place m) ≡ outline_move place m
@@ -98,7 +98,7 @@ module _ {R : Type 0} (f : Semantics R) where
   old_same place (Msg.Get op filter) = refl
   old_same place (Msg.Sync home op chunks) = refl
   old_same place (Msg.Chunks op chunks) = refl
-  old_same place (Msg.Shared op chunk) = new_is (λ entry. New (S_shared op entry)) (λ entry. refl) (spelled f chunk)
+  old_same place (Msg.Shared op chunk) = new_is (λ entry. New (ShareMsg.Shared op entry)) (λ entry. refl) (spelled f chunk)
   old_same place (Msg.Synced op) = refl
   old_same place m = old_is (outline f place m)
 

@@ -1,7 +1,7 @@
 -- The packets that came where an instance fails, by their numbers: those of a unit, in the order in which one instance may have got them, are first
 -- those that the record that stands by has seen, then the lost ones, and then the open ones.
-use Rattle.std.proofs.Common.{◌≡◌, ℕ, ◌+◌, ◌≤◌, Bool, true, false, not, ◌&&◌, ◌||◌, Option, None}
-use Rattle.std.proofs.Common.{List, [], ◌∷◌, ◌++◌, length, map, take, drop, refl, sym, ap, ◌∙◌, subst, arith}
+use Rattle.std.proofs.Common.{◌≡◌, ℕ, ◌+◌, ◌≤◌, Bool, true, false, not, ◌&&◌, ◌||◌, Option, None, List, [], ◌∷◌, ◌++◌, length, map, take, drop, refl, sym, ap}
+use Rattle.std.proofs.Common.{◌∙◌, subst, arith}
 use Rattle.std.specs.Prelude.{IsPermutation, ◌==◌, filter, fold}
 use Rattle.std.specs.List.{AllByRecursion}
 use Rattle.std.proofs.Math.Bool.{and-true, or-true}
@@ -23,11 +23,10 @@ use Rattle.net_world.specs.Input.{packets}
 use Rattle.net_world.specs.Log.{arrivals_in}
 use Rattle.net_world.specs.Places.{is_loose, unit_in}
 use Rattle.net_world.proofs.NumberCounts.{times-append, times_filter}
-use Rattle.standby_failover.specs.Failover.{Failover, IsLeft, is_affected, is_in, is_lost, is_open}
-use Rattle.standby_failover.specs.Failover.{record_kept, lost_packets, numbers_done, open_of, open_packets, processed_of, reflected_by, standing}
-use Rattle.standby_failover.proofs.ListLemmas.{IsOnce, filter_none, filter_same, front_and_others, in_drop, in_filter}
-use Rattle.standby_failover.proofs.ListLemmas.{later_kept, none_times, not_before, once_those, others_are, same_number, some_in}
-use Rattle.standby_failover.proofs.ListLemmas.{those_filter}
+use Rattle.standby_failover.specs.Failover.{Failover, IsLeft, is_affected, is_in, is_lost, is_open, record_kept, lost_packets, numbers_done, open_of}
+use Rattle.standby_failover.specs.Failover.{open_packets, processed_of, reflected_by, standing}
+use Rattle.standby_failover.proofs.ListLemmas.{IsOnce, filter_none, filter_same, front_and_others, in_drop, in_filter, later_kept, none_times, not_before}
+use Rattle.standby_failover.proofs.ListLemmas.{once_those, others_are, same_number, some_in, those_filter}
 use Rattle.standby_failover.proofs.Reflected.{once_done, processed_those}
 use Rattle.run_headline.specs.Headline.{is_of, record_after}
 use Rattle.run_headline.specs.Subject.{Subject}

@@ -17,8 +17,8 @@ use Rattle.standby_failover.specs.Failover.{Failover, IsLeft, is_affected, is_lo
 use Rattle.standby_failover.specs.Lines.{caught_lines, fail_line, failover_text, head_lines, lost_line, open_line, promoted_line, promoted_lines}
 use Rattle.run_headline.specs.Failover.{FailHeadline, FailLines, HasOrder, lines_text, listed}
 use Rattle.run_headline.specs.FailoverLaw.{FailoverLaw, IsFailed}
-use Rattle.run_headline.proofs.others.FailedLines.{all_lines, among_affected, caught_text, each_among, keys, lines_of}
-use Rattle.run_headline.proofs.others.FailedLines.{picked_are, promoted_text, steady, units_are}
+use Rattle.run_headline.proofs.others.FailedLines.{all_lines, among_affected, caught_text, each_among, keys, lines_of, picked_are, promoted_text, steady}
+use Rattle.run_headline.proofs.others.FailedLines.{units_are}
 use Rattle.run_headline.proofs.others.FailedPackets.{count, first, in_order, is_all, of, order, others_named, seen_record, whole_record}
 
 module _ {F R : Type 0} (x : Failover F R) (p : Promoted F R) (caught : TableView R) (is : IsFailed x p caught) where
