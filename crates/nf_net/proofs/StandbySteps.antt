@@ -7,7 +7,7 @@ use Rattle.nf_net.proofs.Words.{record_at, New, ShareMsg, Shared_on, member_step
 use Rattle.nf_net.proofs.Words.{processed_of, standby_in, standby_at, done-append, number, entries, ran_in, is_sys, is_sharing, standby_keeps, HasBeside}
 use Rattle.nf_net.proofs.Words.{its_takes, its_taken, Given, place, chunks_good, Rows, by_message, S, A, shown, by_node, came_by, node_of, Genuine}
 use Rattle.nf_net.proofs.Words.{AreGoodChunks, Scene, IsInstanceAt, AreShown, IsTaken, Joined, by_node-append, given, all_fit, Unit, Mark, records_of, Instance}
-use Rattle.nf_net.proofs.Words.{split, Setting}
+use Rattle.nf_net.proofs.Words.{split, Setting, instance_quiet}
 use Rattle.std.specs.FinMap as finite
 use Rattle.instance_worker.specs.Instance.{Step, on_get}
 use Rattle.proof_machines.proofs.net.Net.{at_node}
@@ -18,7 +18,7 @@ use Rattle.proof_outlines.proofs.whole.InstanceWorlds.{ShowsAt, new_steps}
 use Rattle.proof_outlines.proofs.whole.MemberOutline.{MemberFollows, shared_follows, sync_follows}
 use Rattle.proof_outlines.proofs.whole.StandbyKept.{leaves_standby, step_unshared}
 use Rattle.proof_outlines.proofs.joined.InstanceNotes.{AreOwn, done_own}
-use Rattle.proof_outlines.proofs.joined.InstanceRows.{IsRight, sound_part, instance_leaves}
+use Rattle.proof_outlines.proofs.joined.InstanceRows.{IsRight, sound_part}
 use Rattle.proof_outlines.proofs.joined.StandbyChunks.{AreFronted}
 use Rattle.proof_outlines.proofs.joined.StandbyFronts.{kept_of, AreKeptFronts}
 use Rattle.nf_net.proofs.FrontLemmas.{longer}
@@ -132,13 +132,13 @@ module _ {F R : Type 0} (setting : Setting F R) (n : ℕ) (x : Scene F setting.f
   shared_sees u op home cell e t fronts room =
       new_sees u (Msg.Carry (Mark.Shared op home) cell) (Shared_on op home (number cell)) refl t
       (shared_follows f laws g.site g.packet (place g) i op home cell right.rules e (sound_part f laws g fitting k two i home cell right at.stands.sound e))
-      (instance_leaves f laws g fitting k two i (Msg.Carry (Mark.Shared op home) cell) p t.label right at.stands.sound).notes
+      (i.index, right.number, instance_quiet f i (Msg.Carry (Mark.Shared op home) cell))
 
   sync_sees : (u : Unit) (home : Bool) (op : ℕ) (chunks : List Chunk) → AreGoodChunks f g chunks → Now u (Msg.Sync home op chunks)
   sync_sees u home op chunks good t fronts room =
       new_sees u (Msg.Sync home op chunks) (ShareMsg.Sync op home (entries f chunks)) refl t
       (sync_follows f laws g.site g.packet (place g) i home op chunks (chunks_good f laws g chunks good))
-      (instance_leaves f laws g fitting k two i (Msg.Sync home op chunks) p t.label right at.stands.sound).notes
+      (i.index, right.number, instance_quiet f i (Msg.Sync home op chunks))
 
   -- a copy's chunks: the newer of what stands by and what comes is that of the longer front
   newest_sees : (u : Unit) (all : List ℕ) (held coming : Option R) → length all ≤ most_counted → IsOfFront f c items all held

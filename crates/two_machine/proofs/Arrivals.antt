@@ -2,8 +2,8 @@
 use Rattle.two_machine.proofs.Words.{◌≡◌, ℕ, Bool, true, false, List, [], ◌∷◌, ◌++◌, refl, ap, ◌∙◌, append-nil, if◌then◌else◌, ◌==◌, Free, Target, To_a}
 use Rattle.two_machine.proofs.Words.{To_both, System, Msg, Note, Switch, Ctrl, Inst, In_packet, In_start, In_end, Start, End, Copied, Laid, Forward, Lay}
 use Rattle.two_machine.proofs.Words.{Finish, Carry, Stop, Fence, Credit, goes, switch_step, processed, all_processed, inst_step, ctrl_step, takes_in, Step}
-use Rattle.two_machine.proofs.Words.{World, Observer, read, read-append, arrived, item, Place, Cs, In, Sc, Aw, Bw, Ac, Bc, Sa, Ca, Sb, Cb, choice, with_waits}
-use Rattle.two_machine.proofs.Words.{comes, IsSelected, OnBack, Label, sent, result, copied, Each, each-append}
+use Rattle.two_machine.proofs.Words.{World, Observer, read, flat_map-append, arrived, item, Place, Cs, In, Sc, Aw, Bw, Ac, Bc, Sa, Ca, Sb, Cb, choice}
+use Rattle.two_machine.proofs.Words.{with_waits, comes, IsSelected, OnBack, Label, sent, result, copied, Each, each-append}
 use Rattle.two_machine.proofs.Rows.{Carried, Runs, carried, kind}
 use Rattle.two_machine.proofs.StepLabels.{ctrl_ok, ended_by, gives}
 
@@ -100,7 +100,7 @@ module _ {U T C R O : Type 0} (S : System U T C R O) where
   Ready pl v m = Unit {0}
 
   noted : (v : World T C O) (ns : List (Note O)) {ps : List ℕ} → read arrived ns ≡ ps → read arrived (v.log ++ ns) ≡ read arrived v.log ++ ps
-  noted v ns is = read-append arrived v.log ns ∙ ap (λ xs. read arrived v.log ++ xs) is
+  noted v ns is = flat_map-append arrived v.log ns ∙ ap (λ xs. read arrived v.log ++ xs) is
 
   pub arrivals : (pl : Place) (v : World T C O) (m : Msg C) (rest : List (Msg C)) → Label S pl m → Ready pl v m → IsSelected S v.ct.kept
       → read arrived (result S pl (with_waits S pl rest v) m).log ≡ read arrived v.log ++ comes pl m

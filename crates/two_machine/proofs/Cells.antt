@@ -1,9 +1,11 @@
 -- The switch counts the packets under way: those on links, in the store, and held.
-use Rattle.two_machine.proofs.Words.{◌≡◌, ◌≢◌, ℕ, ◌+◌, true, false, List, [], ◌∷◌, ◌++◌, length, refl, ap, ◌∙◌, arith, if◌then◌else◌, ◌==◌, length_push, Free}
-use Rattle.two_machine.proofs.Words.{Drops, Target, To_a, System, Msg, Switch, Ctrl, Inst, Step, In_packet, In_start, In_end, Forward, Lay, Finish, Carry, Pass}
-use Rattle.two_machine.proofs.Words.{Stop, Enable, Get, Delete, Restore, Fence, Event, Fenced, Credit, goes, switch_step, processed, all_processed, inst_step}
-use Rattle.two_machine.proofs.Words.{forwards, ctrl_row, soon_at, finishes, ctrl_step, takes_in, World, read-append, Place, Ac, Bc, Ca, Cb, Cs, In, Sa, Sb, Sc}
-use Rattle.two_machine.proofs.Words.{Aw, Bw, with_waits, OnBack, Label, to_one, sent, put_switch, put_ctrl, put_a, put_b, result, weigh, weigh-append}
+use Rattle.two_machine.proofs.Words.{◌≡◌, ◌≢◌, ℕ, ◌+◌, true, false, List, [], ◌∷◌, ◌++◌, length, refl, ap, ◌∙◌, arith, if◌then◌else◌, ◌==◌, length_push}
+use Rattle.two_machine.proofs.Words.{Free, Drops, Target, To_a, System, Msg, Switch, Ctrl, Inst, Step, In_packet, In_start, In_end, Forward, Lay, Finish}
+use Rattle.two_machine.proofs.Words.{Carry, Pass, Stop, Enable, Get, Delete, Restore, Fence, Event, Fenced, Credit, goes, switch_step, processed}
+use Rattle.two_machine.proofs.Words.{all_processed, inst_step, forwards, ctrl_row, soon_at, finishes, ctrl_step, takes_in, World, flat_map-append, Place, Ac}
+use Rattle.two_machine.proofs.Words.{Bc}
+use Rattle.two_machine.proofs.Words.{Ca, Cb, Cs, In, Sa, Sb, Sc, Aw, Bw, with_waits, OnBack, Label, to_one, sent, put_switch, put_ctrl, put_a, put_b, result}
+use Rattle.two_machine.proofs.Words.{weigh, weigh-append}
 use Rattle.two_machine.proofs.Rows.{Kind, Cell, kind, Row, Lays_low, Stores, Finishes, Not_yet, Asks, row, soon_row, finish_row, Carried, Runs, Hands_out}
 use Rattle.two_machine.proofs.Rows.{Held, carried}
 use Rattle.two_machine.proofs.Arrivals.{Ready}
@@ -50,7 +52,7 @@ module _ {U T C R O : Type 0} (S : System U T C R O) where
   finish_keeps (Asks e over) = omega arith
 
   sent_cells : (xs ys : List (ℕ × Msg C)) → weigh cell (sent 0 (xs ++ ys)) ≡ weigh cell (sent 0 xs) + weigh cell (sent 0 ys)
-  sent_cells xs ys = ap (weigh cell) (read-append (to_one 0) xs ys) ∙ weigh-append cell (sent 0 xs) (sent 0 ys)
+  sent_cells xs ys = ap (weigh cell) (flat_map-append (to_one 0) xs ys) ∙ weigh-append cell (sent 0 xs) (sent 0 ys)
 
   step_keeps : (c : Ctrl C) (port : ℕ) (m : Msg C) → Keeps c (ctrl_step S c port m) (cell_in (kind port m))
   step_keeps c port m =

@@ -1,7 +1,8 @@
 -- What the controller does of the closing in each step: it asks once for the finish of A, as soon as the update is over and the input ended.
 use Rattle.two_machine.proofs.Words.{◌≡◌, ℕ, true, false, List, [], ◌∷◌, ◌++◌, refl, sym, ap, ◌∙◌, if◌then◌else◌, and_parts, false≢true, Phase, Idle, Freezing}
 use Rattle.two_machine.proofs.Words.{Getting, Deleting, Putting, Holding, Laying, Waiting, Turning, Settling, Ending, Over, System, Msg, Ctrl, Step, Lay}
-use Rattle.two_machine.proofs.Words.{Final, forwards, ctrl_row, and_then, soon_at, is_over, finishes, soon, ctrl_step, still, read, read-append, sent, to_one}
+use Rattle.two_machine.proofs.Words.{Final, forwards, ctrl_row, and_then, soon_at, is_over, finishes, soon, ctrl_step, still, read, flat_map-append, sent}
+use Rattle.two_machine.proofs.Words.{to_one}
 use Rattle.two_machine.proofs.Rows.{Kind, Last, kind, Row, Stays, Freezes, Gets, Deletes, Restores, Holds, Lays_low, Waits, Lays_high, Settles, Fences}
 use Rattle.two_machine.proofs.Rows.{Is_over, None_came, Hears_end, Hears_a, Hears_b, Finishes, Not_yet, Asks, row, soon_row, finish_row}
 use Rattle.two_machine.proofs.Closing.{ends, is_at_end}
@@ -100,11 +101,11 @@ module _ {U T C R O : Type 0} (S : System U T C R O) where
       let next = soon_at S one.node.phase one.node in
       let e = finish_ok (finish_row S next.node) in
       let sends : read ends (sent 0 (one.sends ++ (next.sends ++ (finishes S next.node).sends))) ≡ read ends (sent 0 (finishes S next.node).sends) =
-      ap (read ends) (read-append (to_one 0) one.sends (next.sends ++ (finishes S next.node).sends))
-      ∙ read-append ends (sent 0 one.sends) (sent 0 (next.sends ++ (finishes S next.node).sends))
+      ap (read ends) (flat_map-append (to_one 0) one.sends (next.sends ++ (finishes S next.node).sends))
+      ∙ flat_map-append ends (sent 0 one.sends) (sent 0 (next.sends ++ (finishes S next.node).sends))
       ∙ ap (λ xs. xs ++ read ends (sent 0 (next.sends ++ (finishes S next.node).sends))) r.quiet
-      ∙ ap (read ends) (read-append (to_one 0) next.sends (finishes S next.node).sends)
-      ∙ read-append ends (sent 0 next.sends) (sent 0 (finishes S next.node).sends)
+      ∙ ap (read ends) (flat_map-append (to_one 0) next.sends (finishes S next.node).sends)
+      ∙ flat_map-append ends (sent 0 next.sends) (sent 0 (finishes S next.node).sends)
       ∙ ap (λ xs. xs ++ read ends (sent 0 (finishes S next.node).sends)) f.quiet
       in
       record {

@@ -2,15 +2,15 @@
 use Rattle.two_machine.proofs.Words.{◌≡◌, ℕ, Bool, true, false, List, [], ◌∷◌, ◌++◌, refl, ap, append-nil, if◌then◌else◌, ◌==◌, Free, Target, To_a}
 use Rattle.two_machine.proofs.Words.{System, Msg, Ctrl, Inst, In_packet, In_start, In_end, Start, End, Copied, Laid, Forward, Lay, Finish, Step, Carry}
 use Rattle.two_machine.proofs.Words.{Pass, Stop, Enable, Get, Delete, Restore, Fence, Enabled, Chunks, Deleted, Restored, Event, Seen, Fenced, Final, Credit}
-use Rattle.two_machine.proofs.Words.{has_room, goes, processed, all_processed, still, says, and_then, soon, ctrl_step, World, read, read-append, Label, sent}
-use Rattle.two_machine.proofs.Words.{put_switch, put_ctrl, put_a, put_b, put_twice, result, Place, In, Cs, Aw, Bw, Sc, Ac, Bc, Sa, Ca, Sb, Cb, with_waits}
+use Rattle.two_machine.proofs.Words.{has_room, goes, processed, all_processed, still, says, and_then, soon, ctrl_step, World, read, flat_map-append, Label}
+use Rattle.two_machine.proofs.Words.{sent, put_switch, put_ctrl, put_a, put_b, put_twice, result, Place, In, Cs, Aw, Bw, Sc, Ac, Bc, Sa, Ca, Sb, Cb, with_waits}
 use Rattle.two_machine.proofs.Rows.{Carried, Runs, Held, carried}
 use Rattle.two_machine.proofs.Closing.{ends, seen_signs, Closing}
 use Rattle.two_machine.proofs.ClosingController.{NotFinal, step_ok, soon_ok}
 use Rattle.two_machine.proofs.ClosingSteps.{finishes_at, stops_a, stops_b, hears_a, hears_b, at_finish, at_stop_a, at_stop_b, at_final_a, at_final_b}
 use Rattle.two_machine.proofs.ClosingSteps.{same_close, next_close, ctrl_close}
 
-ruleset reads = (read-append, append-nil)
+ruleset reads = (flat_map-append, append-nil)
 
 module _ {U T C R O : Type 0} (S : System U T C R O) where
   -- a packet arrives, is carried, or all that was held is processed

@@ -1,6 +1,6 @@
 -- What each message of the closing leads to, and what a step of the controller leaves of it.
 use Rattle.two_machine.proofs.Words.{◌≡◌, ℕ, Bool, true, false, List, [], ◌∷◌, ◌++◌, refl, sym, ap, ◌∙◌, if◌then◌else◌, ◌==◌, false≢true, System, Ctrl, Step}
-use Rattle.two_machine.proofs.Words.{World, read, read-append, sent, put_ctrl}
+use Rattle.two_machine.proofs.Words.{World, read, flat_map-append, sent, put_ctrl}
 use Rattle.std.proofs.Common.{drop}
 use Rattle.two_machine.proofs.Closing.{Close, Unsent, Finish_a, Stop_a, Final_a, Finish_b, Stop_b, Final_b, Closed, Signs, signs, ends, is_at_end, seen_signs}
 use Rattle.two_machine.proofs.Closing.{Closing}
@@ -82,7 +82,7 @@ module _ {U T C R O : Type 0} (S : System U T C R O) where
       does : seen_signs S (put_ctrl S v did) ≡ by_ctrl (signs h.at) said did.node.finished (is_at_end S did.node)
       does =
           ap (λ l. record (by_ctrl (seen_signs S v) said did.node.finished (is_at_end S did.node)) { cs = l; stopped = did.node.stopped })
-          (read-append ends v.cs (sent 0 did.sends))
+          (flat_map-append ends v.cs (sent 0 did.sends))
           ∙ ap (λ b. record (by_ctrl (seen_signs S v) said did.node.finished (is_at_end S did.node)) { stopped = b }) ok.stopped
           ∙ ap (λ x. by_ctrl x said did.node.finished (is_at_end S did.node)) h.is
 

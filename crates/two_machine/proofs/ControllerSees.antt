@@ -1,15 +1,16 @@
 -- What is seen of a step of the controller is the machine's.
-use Rattle.two_machine.proofs.Words.{◌≡◌, ℕ, Bool, true, false, Option, Some, None, List, [], ◌∷◌, ◌++◌, refl, ap, ◌∙◌, append_assoc, append-nil, if◌then◌else◌}
-use Rattle.two_machine.proofs.Words.{Phase, Idle, Freezing, Getting, Deleting, Putting, Holding, Laying, Waiting, Turning, Settling, Ending, Over, State, same}
-use Rattle.two_machine.proofs.Words.{System, Laws, Msg, Ctrl, Step, End, Seen, Finish, forwards, none, on_start, on_enabled, on_chunks, on_deleted, on_restored}
-use Rattle.two_machine.proofs.Words.{on_event, on_laid, on_copied, on_fenced, ctrl_row, soon_at, finishes, soon, ctrl_step, World, Observer, Nobody, Of_unit}
-use Rattle.two_machine.proofs.Words.{read, read-append, those-append, frame, inside, item, fold-append, view, sent, put_ctrl, put_twice}
+use Rattle.two_machine.proofs.Words.{◌≡◌, ℕ, Bool, true, false, Option, Some, None, List, [], ◌∷◌, ◌++◌, refl, ap, ◌∙◌, append_assoc, append-nil}
+use Rattle.two_machine.proofs.Words.{if◌then◌else◌, Phase, Idle, Freezing, Getting, Deleting, Putting, Holding, Laying, Waiting, Turning, Settling, Ending}
+use Rattle.two_machine.proofs.Words.{Over, State, same, System, Laws, Msg, Ctrl, Step, End, Seen, Finish, forwards, none, on_start, on_enabled, on_chunks}
+use Rattle.two_machine.proofs.Words.{on_deleted, on_restored, on_event, on_laid, on_copied, on_fenced, ctrl_row, soon_at, finishes, soon, ctrl_step, World}
+use Rattle.two_machine.proofs.Words.{Observer, Nobody, Of_unit, read, flat_map-append, filter-append, frame, inside, item, fold-append, view, sent, put_ctrl}
+use Rattle.two_machine.proofs.Words.{put_twice}
 use Rattle.two_machine.proofs.Machine as m
 use Rattle.two_machine.proofs.Tables
 use Rattle.two_machine.proofs.View.{forwarded, seen}
 use Rattle.two_machine.proofs.Rows.{Finishes, Not_yet, Asks, finish_row}
 
-pub ruleset reads = (read-append, those-append, fold-append, append_assoc, append-nil)
+pub ruleset reads = (flat_map-append, filter-append, fold-append, append_assoc, append-nil)
 
 module _ {U T C R O : Type 0} (S : System U T C R O) (laws : Laws S) (o : Observer U) where
   -- no chunks have no record

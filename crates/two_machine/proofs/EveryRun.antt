@@ -1,7 +1,8 @@
 -- Order, each packet at most once, true outputs, Low before High, for every run.
-use Rattle.two_machine.proofs.Words.{◌≡◌, ◌≤◌, ℕ, ◌+◌, length, Bool, true, false, None, List, [], ◌∷◌, ◌++◌, refl, sym, ap, subst, ◌∙◌, append_assoc, arith}
-use Rattle.two_machine.proofs.Words.{if◌then◌else◌, ◌==◌, nat_tests, Decides-eqb, Choice, Network, run, IsRun, done, path, Rises, System, Laws, Msg, Note, Node}
-use Rattle.two_machine.proofs.Words.{node_step, node_ready, read, those, those-append, carries, arrived, ran, Nobody, Of_unit, frame, with_waits, done_is}
+use Rattle.two_machine.proofs.Words.{◌≡◌, ◌≤◌, ℕ, ◌+◌, length, Bool, true, false, None, List, [], ◌∷◌, ◌++◌, refl, sym, ap, subst, ◌∙◌}
+use Rattle.two_machine.proofs.Words.{append_assoc, arith, if◌then◌else◌, ◌==◌, nat_tests, Decides-eqb, Choice, Network, run, IsRun, done}
+use Rattle.two_machine.proofs.Words.{path, Rises, System, Laws, Msg, Note, Node, node_step, node_ready, read, those, filter-append, carries, arrived, ran}
+use Rattle.two_machine.proofs.Words.{Nobody, Of_unit, frame, with_waits, done_is}
 use Rattle.actor_net.proofs.NumberCounts.{times-append, times_filter}
 use Rattle.two_machine.proofs.Arrivals.{coming}
 use Rattle.two_machine.proofs.Runs.{Reached, known}
@@ -43,7 +44,7 @@ module _ {U T C R O : Type 0} (S : System U T C R O) (laws : Laws S) (window : �
     whole =
         sym (append_assoc (those (mine S laws u) (read ran log)) waiting (those (mine S laws u) input))
         ∙ ap (λ xs. xs ++ those (mine S laws u) input) order
-        ∙ sym (those-append (mine S laws u) (read arrived log) input)
+        ∙ sym (filter-append (mine S laws u) (read arrived log) input)
         ∙ ap (those (mine S laws u)) are;
   }
 
@@ -76,7 +77,7 @@ module _ {U T C R O : Type 0} (S : System U T C R O) (laws : Laws S) (window : �
       let dones : done h.stage ≡ those S.covers (read ran v.log) = done_is (frame S (Of_unit u)) h.stage ∙ sym (ap (λ x. x.done) h.alike) in
       let order : those (mine S laws u) (read ran v.log) ++ those (mine S laws u) (path h.stage) ≡ those (mine S laws u) (read arrived v.log) =
       ap (λ xs. xs ++ those (mine S laws u) (path h.stage)) (sym (own_those S laws u its (read ran v.log)) ∙ ap (those (mine S laws u)) (sym dones))
-      ∙ sym (those-append (mine S laws u) (done h.stage) (path h.stage))
+      ∙ sym (filter-append (mine S laws u) (done h.stage) (path h.stage))
       ∙ ap (those (mine S laws u)) h.order
       ∙ own_those S laws u its (read arrived v.log)
       in

@@ -2,7 +2,7 @@
 use Rattle.two_machine.proofs.Words.{◌≡◌, ◌≢◌, ℕ, Bool, true, false, Option, Some, None, List, [], ◌∷◌, ◌++◌, refl, sym, ap, ◌∙◌, append_assoc, append-nil}
 use Rattle.two_machine.proofs.Words.{if◌then◌else◌, ◌==◌, is_some, false≢true, Rule, Free, Drops, Buffers, Target, To_a, State, stepped, folded}
 use Rattle.two_machine.proofs.Words.{System, Laws, Inst, Step, processed, all_processed, ruled, inst_step, goes, switch_step, World, Observer, Nobody, Of_unit}
-use Rattle.two_machine.proofs.Words.{read-append, frame, own, inside, IsTaken, view, IsSelected, put_switch, put_a, put_b, Each}
+use Rattle.two_machine.proofs.Words.{flat_map-append, frame, own, inside, IsTaken, view, IsSelected, put_switch, put_a, put_b, Each}
 use Rattle.two_machine.proofs.Machine as m
 use Rattle.two_machine.proofs.Tables.{on_pass, on_fence}
 use Rattle.two_machine.proofs.Tables as t
@@ -81,7 +81,7 @@ module _ {U T C R O : Type 0} (S : System U T C R O) (laws : Laws S) (o : Observ
       let owned = own_processed o i.table p in
       let one = processed S 1 i p in
       let next = put_b S (record v { b = i }) one in
-      let same : put_b S v (all_processed S 1 i (p ∷ ps)) ≡ put_b S next (all_processed S 1 one.node ps) = simp (read-append, append_assoc) in
+      let same : put_b S v (all_processed S 1 i (p ∷ ps)) ≡ put_b S next (all_processed S 1 one.node ps) = simp (flat_map-append, append_assoc) in
       ap (view S o) same ∙ all_at_b next ps one.node h.1 ∙ simp (reads, owned, covers)
 
   pub fence_b : (v : World T C O) → Each (λ p. S.covers p ≡ true) v.b.held → view S o (put_b S v (on_fence S 1 v.b)) ≡ m.told_b (frame S o) (view S o v) m.Fence
@@ -89,7 +89,7 @@ module _ {U T C R O : Type 0} (S : System U T C R O) (laws : Laws S) (o : Observ
       let all = all_at_b v v.b.held (record v.b { rule = Free; held = [] }) h in
       let did = all_processed S 1 (record v.b { rule = Free; held = [] }) v.b.held in
       let last : Step S (Inst T) = record { node = did.node; sends = (1, t.Fenced) ∷ []; notes = [] } in
-      let same : put_b S v (on_fence S 1 v.b) ≡ put_b S (put_b S v did) last = simp (read-append, append_assoc, append-nil) in
+      let same : put_b S v (on_fence S 1 v.b) ≡ put_b S (put_b S v did) last = simp (flat_map-append, append_assoc, append-nil) in
       ap (view S o) same ∙ answers (put_b S v did) ∙ ap with_answer all
     where
       with_answer : State R → State R

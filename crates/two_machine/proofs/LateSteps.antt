@@ -1,9 +1,10 @@
 -- Each step from a stage from the low rule on leads to a stage, in order.
 use Rattle.two_machine.proofs.Words.{◌≡◌, ℕ, Bool, true, false, Option, Some, None, List, [], ◌∷◌, ◌++◌, refl, sym, ap, subst, ◌∙◌, append_assoc, append-nil}
-use Rattle.two_machine.proofs.Words.{fold-append, map-append, read, read-append, copies, copied, is_some, false≢true, Frame, Move, End_comes, Arrive, Take_sa}
-use Rattle.two_machine.proofs.Words.{Take_pass, Take_plain, Take_sc, Take_forward, Take_cs, Take_cb, Take_event, Take_seen, Take_bc, Idles, same, Low_goes}
-use Rattle.two_machine.proofs.Words.{Low_comes, Waits, No_packet_came, High_comes, Settles, Fence_goes, Is_over, Stage, Before, Storing, Passing, Turned, Ends}
-use Rattle.two_machine.proofs.Words.{to_list, done, path, last_or, Rises, fit, Fits, shape, Allowed, Leads, to, GoesOn}
+use Rattle.two_machine.proofs.Words.{fold-append, map-append, read, flat_map-append, copies, copied}
+use Rattle.two_machine.proofs.Words.{is_some, false≢true, Frame, Move, End_comes, Arrive, Take_sa, Take_pass, Take_plain, Take_sc, Take_forward, Take_cs}
+use Rattle.two_machine.proofs.Words.{Take_cb, Take_event, Take_seen, Take_bc, Idles, same, Low_goes, Low_comes, Waits, No_packet_came, High_comes, Settles}
+use Rattle.two_machine.proofs.Words.{Fence_goes, Is_over, Stage, Before, Storing, Passing, Turned, Ends, to_list, done, path, last_or, Rises, fit, Fits, shape}
+use Rattle.two_machine.proofs.Words.{Allowed, Leads, to, GoesOn}
 use Rattle.two_machine.proofs.Machine.{Laid, soon}
 use Rattle.two_machine.proofs.Stages.{Turn, High_goes, Late, Last, Fenced_comes, Old, old, Copies, waits, since_seen, old_path, Follows, LastFits, copying}
 use Rattle.two_machine.proofs.Stages.{PathFits}
@@ -190,7 +191,7 @@ module _ {R : Type 0} (f : Frame R) where
       (fit (follow_copy d (old s z x g e l) t c p w.follows) (λ is. let none = w.none_after is in cc) refl) refl (simp paths)
   turned High_comes d s z x g e l t c h y b w k rises End_comes a =
       to (Turned High_comes d s z x g e l t c h y true)
-      (fit w.follows (λ _. sym (read-append copied (copies c) (Laid true ∷ []) ∙ append-nil (read copied (copies c)) ∙ copied_all R c) ∙ a.1) w.own)
+      (fit w.follows (λ _. sym (flat_map-append copied (copies c) (Laid true ∷ []) ∙ append-nil (read copied (copies c)) ∙ copied_all R c) ∙ a.1) w.own)
       refl (simp paths)
   turned Settles d s z x g e l t c h y b w k rises End_comes a =
       to (Turned Settles d s z x g e l t c h y true) (fit w.follows (λ _. w.own.0) w.own) (let not_yet = w.own.1 in rw not_yet refl) (simp paths)

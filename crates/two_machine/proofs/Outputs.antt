@@ -3,8 +3,8 @@ use Rattle.two_machine.proofs.Words.{◌≡◌, ℕ, Bool, true, false, Option, 
 use Rattle.two_machine.proofs.Words.{Free, Target, To_a, Item, State, Frame, stepped, folded, after, Stage, Restore_goes, Before, Storing}
 use Rattle.two_machine.proofs.Words.{Passing, Turned, Ends, done, Rises, System, Laws, Msg, Note, Switch, Inst, In_packet, Lay, Carry, Pass, Stop, Enable, Get}
 use Rattle.two_machine.proofs.Words.{Delete, Restore, Fence, Processed, has_room, goes, switch_step, processed, all_processed, inst_step, ctrl_step, Step}
-use Rattle.two_machine.proofs.Words.{World, read, read-append, those, those-append, carries, item, ran, Of_unit, frame, view, Place, Ca, Cb, Sa, Sb, Sc, Ac, Bc}
-use Rattle.two_machine.proofs.Words.{with_waits, Label, result, done_is, shape, Each}
+use Rattle.two_machine.proofs.Words.{World, read, flat_map-append, those, filter-append, carries, item, ran, Of_unit, frame, view, Place, Ca, Cb, Sa, Sb, Sc}
+use Rattle.two_machine.proofs.Words.{Ac, Bc, with_waits, Label, result, done_is, shape, Each}
 use Rattle.two_machine.proofs.Machine as m
 use Rattle.two_machine.proofs.View.{passes}
 use Rattle.two_machine.proofs.Laws.{scan-append, fold_filter, filter_among}
@@ -58,7 +58,7 @@ module _ {U T C R O : Type 0} (S : System U T C R O) (laws : Laws S) (u : U) whe
 
   due-append : (r : Option R) (xs ys : List ℕ) → due r (xs ++ ys) ≡ due r xs ++ due (folded its_frame r xs) ys
   due-append r xs ys =
-      ap (outputs S r) (those-append mine xs ys)
+      ap (outputs S r) (filter-append mine xs ys)
       ∙ scan-append (λ before p. Some (S.step before p)) S.output r (of_unit S u xs) (of_unit S u ys)
       ∙ ap (λ k. due r xs ++ outputs S k (of_unit S u ys)) (sym (fold_is r xs))
 
@@ -67,10 +67,10 @@ module _ {U T C R O : Type 0} (S : System U T C R O) (laws : Laws S) (u : U) whe
 
   pub right_more : (log notes : List (Note O)) → IsRight log → told notes ≡ due (record_by log) (read ran notes) → IsRight (log ++ notes)
   right_more log notes right more =
-      read-append (answer S u) log notes
+      flat_map-append (answer S u) log notes
       ∙ ap (λ xs. xs ++ told notes) right
       ∙ ap (λ xs. due None (read ran log) ++ xs) more
-      ∙ sym (ap (due None) (read-append ran log notes) ∙ due-append None (read ran log) (read ran notes))
+      ∙ sym (ap (due None) (flat_map-append ran log notes) ∙ due-append None (read ran log) (read ran notes))
 
   -- notes of nothing that was processed
   told_none : (ns : List (Note O)) → read ran ns ≡ [] → told ns ≡ []
@@ -97,7 +97,7 @@ module _ {U T C R O : Type 0} (S : System U T C R O) (laws : Laws S) (u : U) whe
       let next = (processed S n i p).node in
       let then_has : S.at next.table u ≡ stepped its_frame r p = laws.processed i.table p u ∙ ap (λ x. stepped its_frame x p) has in
       let rest = right_all n next ps (stepped its_frame r p) then_has in
-      read-append (answer S u) (processed S n i p).notes (all_processed S n next ps).notes
+      flat_map-append (answer S u) (processed S n i p).notes (all_processed S n next ps).notes
       ∙ ap (λ xs. xs ++ told (all_processed S n next ps).notes) (right_one n i.table p r (λ _. has))
       ∙ ap (λ xs. due r (p ∷ []) ++ xs) rest
       ∙ sym (due-append r (p ∷ []) ps)

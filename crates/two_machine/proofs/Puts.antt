@@ -6,7 +6,8 @@ use Rattle.std.proofs.lemmas.Bool.Decides.{Decides-eqb}
 use Rattle.actor_net.specs.Network.{links_after, after}
 use Rattle.two_machine.proofs.Tables.{System, Msg, Switch, Ctrl, Inst, Is_switch, Is_ctrl, Is_inst, Step, switch_step, inst_step, ctrl_step, and_then}
 use Rattle.two_machine.proofs.Tables.{as_node}
-use Rattle.two_machine.proofs.View.{World, net, read, read-append}
+use Rattle.std.proofs.lemmas.List.Concat.{flat_map-append}
+use Rattle.two_machine.proofs.View.{World, net, read}
 use Rattle.two_machine.proofs.Places.{Place, Ac, Bc, Ca, Cb, Cs, Sa, Sb, Sc, In, Aw, Bw, waits}
 use Rattle.two_machine.proofs.Labels.{IsSelected, OnBack, Label, Labels}
 use Rattle.actor_net.proofs.WeightLaws.{Each, each-append}
@@ -70,7 +71,7 @@ module _ {U T C R O : Type 0} (S : System U T C R O) where
   -- two steps of the controller, one after the other
   pub put_twice : (v : World T C O) (one : Step S (Ctrl C)) (next : Ctrl C → Step S (Ctrl C))
       → put_ctrl v (and_then S one next) ≡ put_ctrl (put_ctrl v one) (next one.node)
-  put_twice v one next = simp (read-append, append_assoc)
+  put_twice v one next = simp (flat_map-append, append_assoc)
 
   abbrev links : World T C O → List (List (Msg C))
   links v = (net v).links

@@ -1,8 +1,9 @@
 -- What holds of every world of a run, complete or not: each observer sees a stage, with the packets in order.
 use Rattle.two_machine.proofs.Words.{◌≡◌, ◌<◌, ℕ, suc, ◌+◌, length, Bool, true, false, Option, Some, None, List, [], ◌∷◌, ◌++◌, sym, ap, subst, ◌∙◌}
-use Rattle.two_machine.proofs.Words.{append_assoc, arith, if◌then◌else◌, Choice, Network, is_enabled, world_next, run, IsRun, Move, Stage, done, path, Fits}
-use Rattle.two_machine.proofs.Words.{Rises, System, Laws, Msg, Note, Node, In_packet, End, node_step, node_ready, World, net, read, those, those-append}
-use Rattle.two_machine.proofs.Words.{arrived, Observer, IsTaken, frame, view, Labels, Label, Place, In, Sc, choice, with_waits, comes, result, shape, Each}
+use Rattle.two_machine.proofs.Words.{append_assoc, arith, if◌then◌else◌, Choice, Network, is_enabled, world_next, run, IsRun, Move, Stage}
+use Rattle.two_machine.proofs.Words.{done, path, Fits, Rises, System, Laws, Msg, Note, Node, In_packet, End, node_step, node_ready, World, net, read, those}
+use Rattle.two_machine.proofs.Words.{filter-append, arrived, Observer, IsTaken, frame, view, Labels, Label, Place, In, Sc, choice, with_waits, comes, result}
+use Rattle.two_machine.proofs.Words.{shape, Each}
 use Rattle.two_machine.proofs.Laws.{rises_front}
 use Rattle.two_machine.proofs.Shapes.{Leads}
 use Rattle.two_machine.proofs.EarlySteps.{stays}
@@ -102,7 +103,7 @@ module _ {U T C R O : Type 0} (S : System U T C R O) where
               goes.order
               ∙ ap (λ xs. xs ++ brought turned.move) (h.order ∙ ap (λ l. those S.covers (read arrived l)) logs)
               ∙ ap (λ xs. those S.covers (read arrived v.log) ++ xs) turned.brings_is
-              ∙ sym (those-append S.covers (read arrived v.log) (comes pl x))
+              ∙ sym (filter-append S.covers (read arrived v.log) (comes pl x))
               ∙ ap (those S.covers) (sym came);
         }
       where

@@ -2,7 +2,7 @@
 use Rattle.two_machine.proofs.Words.{◌≡◌, ◌≢◌, ℕ, Bool, true, false, List, [], ◌∷◌, refl, ◌∙◌, if◌then◌else◌, ◌==◌, Free, Drops, Target, To_a, To_both}
 use Rattle.two_machine.proofs.Words.{System, Msg, Switch, Ctrl, Inst, Step, In_packet, In_start, In_end, Forward, Lay, Finish, Carry, Pass, Stop, Enable, Get}
 use Rattle.two_machine.proofs.Words.{Delete, Restore, Fence, Chunks, Fenced, has_room, goes, switch_step, processed, all_processed, inst_step, forwards}
-use Rattle.two_machine.proofs.Words.{ctrl_row, and_then, soon_at, finishes, soon, ctrl_step, read, read-append, arrived, ran, Place, Ca, Cb, Sa, Sb, Ac}
+use Rattle.two_machine.proofs.Words.{ctrl_row, and_then, soon_at, finishes, soon, ctrl_step, read, flat_map-append, arrived, ran, Place, Ca, Cb, Sa, Sb, Ac}
 use Rattle.two_machine.proofs.Words.{choice, IsSelected, Label, From_a, From_b, Each, each-append}
 use Rattle.two_machine.proofs.Rows.{Kind, Ended, Has, kind, Row, Freezes, Gets, Deletes, Restores, Holds, Lays_low, Lays_high, Fences, Forwards, Hears_a}
 use Rattle.two_machine.proofs.Rows.{Finishes, Not_yet, Asks, row, soon_row, finish_row, Carried, Runs, Hands_out, Held, carried}
@@ -86,8 +86,8 @@ module _ {U T C R O : Type 0} (S : System U T C R O) where
     sends = each-append (λ x. FromCtrl S x.0 x.1) one.sends (next one.node).sends h.sends k.sends;
     kept = k.kept;
     ended = k.ended ∙ h.ended;
-    quiet = let first = h.quiet in let second = k.quiet in read-append arrived one.notes (next one.node).notes ∙ rw (first, second) refl;
-    unrun = let first = h.unrun in let second = k.unrun in read-append ran one.notes (next one.node).notes ∙ rw (first, second) refl;
+    quiet = let first = h.quiet in let second = k.quiet in flat_map-append arrived one.notes (next one.node).notes ∙ rw (first, second) refl;
+    unrun = let first = h.unrun in let second = k.unrun in flat_map-append ran one.notes (next one.node).notes ∙ rw (first, second) refl;
   }
 
   forwards_ok : (ps : List ℕ) → Each (λ x. FromCtrl S x.0 x.1) (forwards S ps)

@@ -2,8 +2,8 @@
 use Rattle.two_machine.proofs.Words.{◌≡◌, ℕ, Bool, true, false, None, List, [], ◌∷◌, ◌++◌, refl, sym, ap, ◌∙◌, append_assoc, append-nil, if◌then◌else◌, ◌==◌}
 use Rattle.two_machine.proofs.Words.{Free, Target, To_a, To_both, To_b, stepped, folded, System, Laws, Msg, Note, Ctrl, Inst, Step, In_packet, In_start}
 use Rattle.two_machine.proofs.Words.{In_end, Forward, Lay, Finish, Carry, Pass, Stop, Enable, Get, Delete, Restore, Fence, Credit, Arrived, goes, switch_step}
-use Rattle.two_machine.proofs.Words.{processed, all_processed, inst_step, ctrl_step, takes_in, World, read, read-append, those, those-append, carries, arrived}
-use Rattle.two_machine.proofs.Words.{ran, Nobody, view, Place, Ca, Cb, Cs, In, Sa, Sb, Aw, Bw, Sc, Ac, Bc, with_waits, IsSelected, OnBack, Label, sent}
+use Rattle.two_machine.proofs.Words.{processed, all_processed, inst_step, ctrl_step, takes_in, World, read, flat_map-append, those, filter-append, carries}
+use Rattle.two_machine.proofs.Words.{arrived, ran, Nobody, view, Place, Ca, Cb, Cs, In, Sa, Sb, Aw, Bw, Sc, Ac, Bc, with_waits, IsSelected, OnBack, Label, sent}
 use Rattle.two_machine.proofs.Words.{put_switch, put_a, put_b, result, Each, fold-append}
 use Rattle.two_machine.proofs.Tables
 use Rattle.two_machine.proofs.Rows.{Carried, Runs, Hands_out, Held, carried}
@@ -26,14 +26,14 @@ module _ {U T C R O : Type 0} (S : System U T C R O) (laws : Laws S) (u : U) (no
 
   record_more : (log notes : List (Note O)) → record_by S laws u (log ++ notes) ≡ folded (its_frame S laws u) (record_by S laws u log) (read ran notes)
   record_more log notes =
-      ap (folded (its_frame S laws u) None) (read-append ran log notes) ∙ fold-append (stepped (its_frame S laws u)) None (read ran log) (read ran notes)
+      ap (folded (its_frame S laws u) None) (flat_map-append ran log notes) ∙ fold-append (stepped (its_frame S laws u)) None (read ran log) (read ran notes)
 
   -- a step that processes nothing, and brings nothing in
   quietly : {v w : World T C O} (notes : List (Note O)) → w.log ≡ v.log ++ notes → read ran notes ≡ [] → read arrived notes ≡ []
       → S.at w.a.table u ≡ S.at v.a.table u → S.at w.b.table u ≡ S.at v.b.table u → own (read carries w.sa) ≡ own (read carries v.sa) → Stays v → Stays w
   quietly {v} notes log no_ran no_came a b sa h =
-      let rans : read ran (v.log ++ notes) ≡ read ran v.log = read-append ran v.log notes ∙ rw no_ran (append-nil (read ran v.log)) in
-      let came : read arrived (v.log ++ notes) ≡ read arrived v.log = read-append arrived v.log notes ∙ rw no_came (append-nil (read arrived v.log)) in
+      let rans : read ran (v.log ++ notes) ≡ read ran v.log = flat_map-append ran v.log notes ∙ rw no_ran (append-nil (read ran v.log)) in
+      let came : read arrived (v.log ++ notes) ≡ read arrived v.log = flat_map-append arrived v.log notes ∙ rw no_came (append-nil (read arrived v.log)) in
       record {
         a_is = rw log (a ∙ h.a_is ∙ sym (ap (folded (its_frame S laws u) None) rans));
         b_is = b ∙ h.b_is;
@@ -42,7 +42,7 @@ module _ {U T C R O : Type 0} (S : System U T C R O) (laws : Laws S) (u : U) (no
       }
 
   own_put : (xs ys : List (Msg C)) → read carries ys ≡ [] → own (read carries (xs ++ ys)) ≡ own (read carries xs)
-  own_put xs ys none = ap own (read-append carries xs ys ∙ rw none (append-nil (read carries xs)))
+  own_put xs ys none = ap own (flat_map-append carries xs ys ∙ rw none (append-nil (read carries xs)))
 
   -- A processes a packet
   runs_a : (v : World T C O) (p : ℕ) (rest : List (Msg C)) → Stays (record v { sa = Carry p ∷ rest })
@@ -51,12 +51,12 @@ module _ {U T C R O : Type 0} (S : System U T C R O) (laws : Laws S) (u : U) (no
     a_is = laws.processed v.a.table p u ∙ ap (λ x. stepped (its_frame S laws u) x p) h.a_is ∙ sym (record_more v.log (processed S 0 v.a p).notes);
     b_is = h.b_is;
     order =
-        ap (λ xs. own xs ++ own (read carries rest)) (read-append ran v.log (processed S 0 v.a p).notes)
-        ∙ ap (λ xs. xs ++ own (read carries rest)) (those-append (mine S laws u) (read ran v.log) (p ∷ []))
+        ap (λ xs. own xs ++ own (read carries rest)) (flat_map-append ran v.log (processed S 0 v.a p).notes)
+        ∙ ap (λ xs. xs ++ own (read carries rest)) (filter-append (mine S laws u) (read ran v.log) (p ∷ []))
         ∙ append_assoc (own (read ran v.log)) (own (p ∷ [])) (own (read carries rest))
-        ∙ ap (λ xs. own (read ran v.log) ++ xs) (sym (those-append (mine S laws u) (p ∷ []) (read carries rest)))
+        ∙ ap (λ xs. own (read ran v.log) ++ xs) (sym (filter-append (mine S laws u) (p ∷ []) (read carries rest)))
         ∙ h.order
-        ∙ sym (ap own (read-append arrived v.log (processed S 0 v.a p).notes ∙ append-nil (read arrived v.log)));
+        ∙ sym (ap own (flat_map-append arrived v.log (processed S 0 v.a p).notes ∙ append-nil (read arrived v.log)));
     right = right_more S laws u v.log (processed S 0 v.a p).notes h.right (right_one S laws u 0 v.a.table p (record_by S laws u v.log) (λ _. h.a_is));
   }
 
@@ -98,9 +98,9 @@ module _ {U T C R O : Type 0} (S : System U T C R O) (laws : Laws S) (u : U) (no
       → told S laws u notes ≡ [] → Each (λ p. mine S laws u p ≡ false) ps → S.at w.a.table u ≡ S.at v.a.table u → S.at w.b.table u ≡ S.at v.b.table u
       → own (read carries w.sa) ≡ own (read carries v.sa) → Stays v → Stays w
   runs_b {v} notes ps log rans no_came tells others a b sa h =
-      let came : read arrived (v.log ++ notes) ≡ read arrived v.log = read-append arrived v.log notes ∙ rw no_came (append-nil (read arrived v.log)) in
+      let came : read arrived (v.log ++ notes) ≡ read arrived v.log = flat_map-append arrived v.log notes ∙ rw no_came (append-nil (read arrived v.log)) in
       let owned : own (read ran (v.log ++ notes)) ≡ own (read ran v.log) =
-      ap own (read-append ran v.log notes) ∙ those-append (mine S laws u) (read ran v.log) (read ran notes)
+      ap own (flat_map-append ran v.log notes) ∙ filter-append (mine S laws u) (read ran v.log) (read ran notes)
       ∙ ap (λ xs. own (read ran v.log) ++ xs) (ap own rans ∙ own_none S laws u ps others) ∙ append-nil (own (read ran v.log)) in
       record {
         a_is =
@@ -160,14 +160,15 @@ module _ {U T C R O : Type 0} (S : System U T C R O) (laws : Laws S) (u : U) (no
   -- the switch
   stays_goes : (v : World T C O) (p : ℕ) (t : Target) → (t ≡ To_b → mine S laws u p ≡ false) → Stays v → Stays (put_switch S v (goes S t v.sw p))
   stays_goes v p t b h =
-      let rans : read ran (v.log ++ Arrived p ∷ []) ≡ read ran v.log = read-append ran v.log (Arrived p ∷ []) ∙ append-nil (read ran v.log) in
+      let rans : read ran (v.log ++ Arrived p ∷ []) ≡ read ran v.log = flat_map-append ran v.log (Arrived p ∷ []) ∙ append-nil (read ran v.log) in
       let came : own (read arrived (v.log ++ Arrived p ∷ [])) ≡ own (read arrived v.log) ++ own (p ∷ []) =
-      ap own (read-append arrived v.log (Arrived p ∷ [])) ∙ those-append (mine S laws u) (read arrived v.log) (p ∷ []) in
+      ap own (flat_map-append arrived v.log (Arrived p ∷ [])) ∙ filter-append (mine S laws u) (read arrived v.log) (p ∷ []) in
       let a = ap (folded (its_frame S laws u) None) (sym rans) in
       let right = right_none S laws u v.log (Arrived p ∷ []) h.right refl in
       let more : own (read ran (v.log ++ Arrived p ∷ [])) ++ own (read carries (v.sa ++ Carry p ∷ [])) ≡ own (read arrived (v.log ++ Arrived p ∷ [])) =
       ap (λ xs. own xs ++ own (read carries (v.sa ++ Carry p ∷ []))) rans
-      ∙ ap (λ xs. own (read ran v.log) ++ xs) (ap own (read-append carries v.sa (Carry p ∷ [])) ∙ those-append (mine S laws u) (read carries v.sa) (p ∷ []))
+      ∙ ap (λ xs. own (read ran v.log) ++ xs)
+      (ap own (flat_map-append carries v.sa (Carry p ∷ [])) ∙ filter-append (mine S laws u) (read carries v.sa) (p ∷ []))
       ∙ sym (append_assoc (own (read ran v.log)) (own (read carries v.sa)) (own (p ∷ [])))
       ∙ ap (λ xs. xs ++ own (p ∷ [])) h.order ∙ sym came
       in

@@ -2,8 +2,6 @@
 -- a unit, which sees its own records besides.
 use Rattle.std.proofs.Common.{◌≡◌, ℕ, Bool, true, false, Option, None, List, [], ◌∷◌, ◌++◌}
 use Rattle.std.specs.Prelude.{if◌then◌else◌, filter, flat_map, fold}
-use Rattle.std.proofs.lemmas.List.Concat.{flat_map-append}
-use Rattle.std.proofs.lemmas.List.Elements.{filter-append}
 use Rattle.actor_net.specs.Network.{Network}
 use Rattle.two_machine.proofs.Machine.{Item, Came, Scan, No_low, scanned, Frame, State}
 use Rattle.two_machine.proofs.Machine as m
@@ -43,15 +41,9 @@ net v = record {
 abbrev pub read : {X Y : Type 0} → (X → List Y) → List X → List Y
 read g xs = flat_map g xs
 
-pub read-append : {X Y : Type 0} (g : X → List Y) (xs ys : List X) → read g (xs ++ ys) ≡ read g xs ++ read g ys
-read-append g xs ys = flat_map-append g xs ys
-
 -- those numbers for which the test is true
 abbrev pub those : (ℕ → Bool) → List ℕ → List ℕ
 those k ps = filter k ps
-
-pub those-append : (k : ℕ → Bool) (xs ys : List ℕ) → those k (xs ++ ys) ≡ those k xs ++ those k ys
-those-append k xs ys = filter-append k xs ys
 
 -- packets in messages
 abbrev pub carries : {C : Type 0} → Msg C → List ℕ

@@ -2,7 +2,7 @@
 use Rattle.two_machine.proofs.Words.{◌≡◌, ◌≤◌, ℕ, ◌+◌, ◌*◌, Bool, true, false, List, [], ◌∷◌, ◌++◌, length, refl, ap, ◌∙◌, arith, if◌then◌else◌, ◌==◌}
 use Rattle.two_machine.proofs.Words.{length_push, Phase, Idle, Freezing, Getting, Deleting, Putting, Holding, Laying, Waiting, Turning, Settling, Ending, Over}
 use Rattle.two_machine.proofs.Words.{System, Msg, Ctrl, Step, In_packet, Forward, Lay, Finish, Carry, Pass, Event, Final, forwards, ctrl_row, soon_at}
-use Rattle.two_machine.proofs.Words.{finishes, ctrl_step, World, read-append, to_one, sent, weigh, weigh-append}
+use Rattle.two_machine.proofs.Words.{finishes, ctrl_step, World, flat_map-append, to_one, sent, weigh, weigh-append}
 use Rattle.two_machine.proofs.Rows.{Kind, Cell, Last, kind, Row, Freezes, Gets, Deletes, Restores, Holds, Lays_low, Waits, Lays_high, Settles, Fences, Is_over}
 use Rattle.two_machine.proofs.Rows.{None_came, Stores, Finishes, Not_yet, Asks, row, soon_row, finish_row}
 
@@ -70,9 +70,9 @@ module _ {U T C R O : Type 0} (S : System U T C R O) where
 
   sends-append : (xs ys : List (ℕ × Msg C)) → w_sends (xs ++ ys) ≡ w_sends xs + w_sends ys
   sends-append xs ys =
-      let a = ap (weigh w_cs) (read-append (to_one 0) xs ys) ∙ weigh-append w_cs (sent 0 xs) (sent 0 ys) in
-      let b = ap (weigh w_two) (read-append (to_one 2) xs ys) ∙ weigh-append w_two (sent 2 xs) (sent 2 ys) in
-      let d = ap (weigh w_two) (read-append (to_one 3) xs ys) ∙ weigh-append w_two (sent 3 xs) (sent 3 ys) in
+      let a = ap (weigh w_cs) (flat_map-append (to_one 0) xs ys) ∙ weigh-append w_cs (sent 0 xs) (sent 0 ys) in
+      let b = ap (weigh w_two) (flat_map-append (to_one 2) xs ys) ∙ weigh-append w_two (sent 2 xs) (sent 2 ys) in
+      let d = ap (weigh w_two) (flat_map-append (to_one 3) xs ys) ∙ weigh-append w_two (sent 3 xs) (sent 3 ys) in
       omega (arith, a, b, d)
 
   w_forwards : (ps : List ℕ) → w_sends (forwards S ps) ≡ 4 * length ps

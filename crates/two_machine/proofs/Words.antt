@@ -4,6 +4,8 @@ pub use Rattle.std.proofs.Common.{append_assoc, subst, ◌≢◌, ◌≤◌, ◌
 pub use Rattle.std.proofs.lemmas.Bool.{false≢true, and_parts}
 pub use Rattle.std.proofs.lemmas.Bool.Decides.{nat_tests, Decides-eqb}
 pub use Rattle.std.proofs.lemmas.List.{length_push, map-append}
+pub use Rattle.std.proofs.lemmas.List.Concat.{flat_map-append}
+pub use Rattle.std.proofs.lemmas.List.Elements.{filter-append}
 pub use Rattle.std.proofs.lemmas.List.Sums.{fold-append}
 pub use Rattle.std.specs.Prelude.{if◌then◌else◌, ◌==◌, is_some, ◌&&◌, ◌||◌, fold}
 pub use Rattle.std.specs.List.{last_or}
@@ -28,5 +30,5 @@ pub use Rattle.two_machine.proofs.Tables.{Final, Node, node_step, Credit, End, E
 pub use Rattle.two_machine.proofs.Tables.{Copied, Done, Is_switch, Laid, Seen, Start, is_over, soon, Arrived, Deleted, Enabled, Is_inst, No_packet, Processed}
 pub use Rattle.two_machine.proofs.Tables.{Restored, and_then, items, node_ended, none, still, takes_in, High, Is_ctrl, Low, first_nodes, in_packets, on_chunks}
 pub use Rattle.two_machine.proofs.Tables.{on_copied, on_deleted, on_enabled, on_event, on_fenced, on_laid, on_restored, on_start, ruled, says}
-pub use Rattle.two_machine.proofs.View.{World, read, read-append, Nobody, frame, those, view, Observer, arrived, Of_unit, net, ran, IsTaken, carries, item}
-pub use Rattle.two_machine.proofs.View.{those-append, inside, own, starts, scans}
+pub use Rattle.two_machine.proofs.View.{World, read, Nobody, frame, those, view, Observer, arrived, Of_unit, net, ran, IsTaken, carries, item}
+pub use Rattle.two_machine.proofs.View.{inside, own, starts, scans}

@@ -2,10 +2,11 @@
 use Rattle.two_phase.proofs.Words.{◌≡◌, ℕ, ◌+◌, ◌*◌, true, false, Option, Some, None, List, [], ◌∷◌, ◌++◌, length, drop, sym, ap, subst, ◌∙◌, refl}
 use Rattle.two_phase.proofs.Words.{if◌then◌else◌, ◌==◌, ◌&&◌, nat_lt, slice_get, slice_set, slice_index_or, list_all, Output, Choice, Network, queue_at}
 use Rattle.two_phase.proofs.Words.{is_enabled, world_next, is_done, TwoMsg, TwoNote, TwoNode, Switch, Controller, Instance, InstanceState, SwitchState}
-use Rattle.two_phase.proofs.Words.{ControllerState, Step, node_step, node_ready, node_ended, read, read-append}
+use Rattle.two_phase.proofs.Words.{ControllerState, Step, node_step, node_ready, node_ended, read, flat_map-append}
+use Rattle.std.specs.List.{AllZip}
 use Rattle.actor_net.specs.Network.{is_input, on_link, takes_first, without_first, reaches, put_on, links_after, after, world_after_step}
 use Rattle.two_machine.proofs.Tables as core
-use Rattle.two_phase.proofs.AlikeLists.{Alike, alike-append, alike-set, alike-at, alike-length, alike-rest, BothOrNone, alike-get, alike-all}
+use Rattle.two_phase.proofs.AlikeLists.{alike-append, alike-set, alike-at, alike-length, alike-rest, BothOrNone, alike-get, alike-all}
 use Rattle.two_phase.proofs.RecordLaws.{Sound, Setting, sys}
 use Rattle.two_phase.proofs.Outlines.{outline_note, Shown, Sends, InstanceShows, ControllerShows, SwitchShows}
 use Rattle.two_phase.proofs.InstanceFollows.{instance_follows}
@@ -30,18 +31,18 @@ module _ {R : Type 0} (setting : Setting R) where
   CoreStep = core.Step (sys setting) (core.Node (Sound f) (Sound f))
 
   abbrev pub AreShown : List TwoMsg → List (core.Msg (Sound f)) → Type 0
-  AreShown xs ys = Alike (Shown setting) xs ys
+  AreShown xs ys = AllZip (Shown setting) xs ys
 
   -- links after what was sent
   put_alike : (n from k l : ℕ) (x : TwoMsg) (y : core.Msg (Sound f)) (ls : List (List TwoMsg)) (ms : List (List (core.Msg (Sound f)))) → k ≡ l
-      → Shown setting x y → Alike AreShown ls ms → Alike AreShown (put_on n from (k, x) ls) (put_on n from (l, y) ms)
+      → Shown setting x y → AllZip AreShown ls ms → AllZip AreShown (put_on n from (k, x) ls) (put_on n from (l, y) ms)
   put_alike n from k l x y ls ms e p h =
       let at = from * n + k in
       let one = slice_index_or ls at [] in
       let other = slice_index_or ms at [] in
-      subst (λ l. Alike AreShown (put_on n from (k, x) ls) (put_on n from (l, y) ms)) e (
+      subst (λ l. AllZip AreShown (put_on n from (k, x) ls) (put_on n from (l, y) ms)) e (
       elim (reaches n from k) as (λ b.
-      Alike AreShown (if b then slice_set ls at (one ++ x ∷ []) else ls) (if b then slice_set ms at (other ++ y ∷ []) else ms)) [
+      AllZip AreShown (if b then slice_set ls at (one ++ x ∷ []) else ls) (if b then slice_set ms at (other ++ y ∷ []) else ms)) [
         | true ↦
             alike-set AreShown ls ms at (one ++ x ∷ []) (other ++ y ∷ []) h
             (alike-append (Shown setting) one other (x ∷ []) (y ∷ []) (alike-at AreShown ls ms at [] [] h tt) (p, tt))
@@ -49,8 +50,8 @@ module _ {R : Type 0} (setting : Setting R) where
       ])
 
   delivered_alike : (n from : ℕ) (xs : List (ℕ × TwoMsg)) (ys : List (ℕ × core.Msg (Sound f))) (ls : List (List TwoMsg))
-      (ms : List (List (core.Msg (Sound f)))) → Sends setting xs ys → Alike AreShown ls ms
-      → Alike AreShown (links_after n from xs ls) (links_after n from ys ms)
+      (ms : List (List (core.Msg (Sound f)))) → Sends setting xs ys → AllZip AreShown ls ms
+      → AllZip AreShown (links_after n from xs ls) (links_after n from ys ms)
   delivered_alike n from [] [] ls ms s h = h
   delivered_alike n from (x ∷ xs) (y ∷ ys) ls ms s h =
       delivered_alike n from xs ys (put_on n from x ls) (put_on n from y ms) s.1 (put_alike n from x.0 y.0 x.1 y.1 ls ms s.0.0 s.0.1 h)
@@ -83,8 +84,8 @@ module _ {F R : Type 0} (setting : Setting R) where
   -- worlds
   pub record Outlined (w : Network (TwoNode F R) TwoMsg TwoNote)
       (v : Network (core.Node (Sound f) (Sound f)) (core.Msg (Sound f)) (core.Note Output)) : Type 0 where
-    pub nodes : Alike NodeShows w.nodes v.nodes
-    pub links : Alike (AreShown setting) w.links v.links
+    pub nodes : AllZip NodeShows w.nodes v.nodes
+    pub links : AllZip (AreShown setting) w.links v.links
     pub input : AreShown setting w.input v.input
     pub log : read outline_note w.log ≡ v.log
 
@@ -93,12 +94,12 @@ module _ {F R : Type 0} (setting : Setting R) where
   later w v h k did dj s = record {
     nodes = alike-set NodeShows w.nodes v.nodes k did.node dj.node h.nodes s.node;
     links =
-        subst (λ n. Alike (AreShown setting) (links_after n k did.sends w.links) (links_after (length v.nodes) k dj.sends v.links))
+        subst (λ n. AllZip (AreShown setting) (links_after n k did.sends w.links) (links_after (length v.nodes) k dj.sends v.links))
         (sym (alike-length NodeShows w.nodes v.nodes h.nodes))
         (delivered_alike setting (length v.nodes) k did.sends dj.sends w.links v.links s.sends h.links);
     input = h.input;
     log =
-        read-append outline_note w.log did.notes
+        flat_map-append outline_note w.log did.notes
         ∙ ap (λ l. l ++ read outline_note did.notes) h.log
         ∙ ap (λ l. v.log ++ l) s.notes;
   }
@@ -142,7 +143,7 @@ module _ {F R : Type 0} (setting : Setting R) where
           | false ↦ record {
             nodes = h.nodes;
             links =
-                subst (λ n. Alike (AreShown setting) (slice_set w.links (c.port * n + c.node) rest) (slice_set v.links at core_rest)) (sym sizes)
+                subst (λ n. AllZip (AreShown setting) (slice_set w.links (c.port * n + c.node) rest) (slice_set v.links at core_rest)) (sym sizes)
                 (alike-set (AreShown setting) w.links v.links at rest core_rest h.links
                 (alike-rest (Shown setting) (queue_at w c) (queue_at v c) (waits_alike c)));
             input = h.input;

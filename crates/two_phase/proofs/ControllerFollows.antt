@@ -1,7 +1,8 @@
 -- The step of the real controller is that of the reduced one.
 use Rattle.two_phase.proofs.Words.{◌≡◌, ℕ, zero, suc, Bool, true, false, Option, Some, List, [], ◌∷◌, ◌++◌, refl, sym, ap, subst, ◌∙◌, arith}
 use Rattle.two_phase.proofs.Words.{if◌then◌else◌, ◌==◌, ◌&&◌, ◌||◌, not, false≢true, nat_tests, FullCell, TwoMsg, ControllerState, Step, still, the_update}
-use Rattle.two_phase.proofs.Words.{forward_messages, controller_row, read, read-append}
+use Rattle.two_phase.proofs.Words.{forward_messages, controller_row, read, flat_map-append}
+use Rattle.std.specs.List.{AllZip}
 use Rattle.nf_msgs.specs.declared.msg.Msg.TheVariants as msg
 use Rattle.two_phase.specs.declared.msg.TwoMsg.TheVariants as two
 use Rattle.two_phase.specs.declared.note.TwoNote.TheVariants as note
@@ -9,7 +10,7 @@ use Rattle.two_phase.specs.Tables.{tell_step, and_then, on_start, on_enabled, on
 use Rattle.two_phase.specs.Tables.{on_final, are_same, soon, is_over, finish_step, controller_step}
 use Rattle.two_machine.proofs.Machine.{Phase, Idle, Freezing, Getting, Deleting, Putting, Holding, Laying, Waiting, Turning, Settling, Ending, Over, same}
 use Rattle.two_machine.proofs.Tables as core
-use Rattle.two_phase.proofs.AlikeLists.{Alike, alike-append}
+use Rattle.two_phase.proofs.AlikeLists.{alike-append}
 use Rattle.two_phase.proofs.RecordLaws.{Sound, Setting, sys, chunks, no_chunks}
 use Rattle.two_phase.proofs.Outlines
 use Rattle.two_phase.proofs.Outlines.{outline_note, IsGenuine, Shown, ShownTo, Sends, real_ctrl, ControllerShows, phase_shown}
@@ -32,7 +33,7 @@ module _ {R : Type 0} (setting : Setting R) where
     pub notes : read outline_note did.notes ≡ dd.notes
 
   follows : {did : Step ControllerState} {dd : core.Step (sys setting) (core.Ctrl (Sound f))} (cells : List FullCell)
-      → did.node ≡ real_ctrl setting cells dd.node → Alike (IsGenuine setting) cells dd.node.store → Sends setting did.sends dd.sends
+      → did.node ≡ real_ctrl setting cells dd.node → AllZip (IsGenuine setting) cells dd.node.store → Sends setting did.sends dd.sends
       → read outline_note did.notes ≡ dd.notes → FollowsController did dd
   follows cells is store sends notes = record { node = record { cells = cells; store = store; is = is }; sends = sends; notes = notes }
 
@@ -43,12 +44,12 @@ module _ {R : Type 0} (setting : Setting R) where
     node = k.node;
     sends = alike-append (ShownTo setting) one.sends dd.sends (next one.node).sends (core_next dd.node).sends h.sends k.sends;
     notes =
-        read-append outline_note one.notes (next one.node).notes
+        flat_map-append outline_note one.notes (next one.node).notes
         ∙ ap (λ xs. xs ++ read outline_note (next one.node).notes) h.notes
         ∙ ap (λ xs. dd.notes ++ xs) k.notes;
   }
 
-  module _ (cells : List FullCell) (d : core.Ctrl (Sound f)) (g : Alike (IsGenuine setting) cells d.store) where
+  module _ (cells : List FullCell) (d : core.Ctrl (Sound f)) (g : AllZip (IsGenuine setting) cells d.store) where
     abbrev c : ControllerState
     c = real_ctrl setting cells d
 
@@ -59,7 +60,7 @@ module _ {R : Type 0} (setting : Setting R) where
     start_follows Idle = follows cells refl g ((refl, Outlines.Enable_drop), tt) refl
     start_follows ph = still_follows
 
-    all_forward : (cells : List FullCell) (ns : List ℕ) → Alike (IsGenuine setting) cells ns
+    all_forward : (cells : List FullCell) (ns : List ℕ) → AllZip (IsGenuine setting) cells ns
         → Sends setting (forward_messages cells) (core.forwards (sys setting) ns)
     all_forward [] [] g = tt
     all_forward (cell ∷ cells) (n ∷ ns) g = ((refl, Outlines.Forward cell n g.0), all_forward cells ns g.1)

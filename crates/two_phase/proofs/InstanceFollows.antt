@@ -1,7 +1,8 @@
 -- The step of a real instance is that of the reduced one.
 use Rattle.two_phase.proofs.Words.{◌≡◌, ℕ, Bool, true, false, Option, Some, None, List, [], ◌∷◌, ◌++◌, map, refl, sym, ap, subst, ◌∙◌, if◌then◌else◌, matches}
 use Rattle.two_phase.proofs.Words.{flow_of, unit_at, output_for, without, newest_of, records_of, table_read, Action, Plain, Pass, EventRule, FullCell}
-use Rattle.two_phase.proofs.Words.{units_in, InstanceState, TwoMsg, Step, still, the_update, sent_inside, Rule, Free, Drops, Buffers, read, read-append}
+use Rattle.two_phase.proofs.Words.{units_in, InstanceState, TwoMsg, Step, still, the_update, sent_inside, Rule, Free, Drops, Buffers, read, flat_map-append}
+use Rattle.std.specs.List.{AllZip}
 use Rattle.std.proofs.Common.{append-nil}
 use Rattle.std.specs.FinMap as finite
 use Rattle.std.proofs.lemmas.List.{map-append}
@@ -15,7 +16,7 @@ use Rattle.two_phase.specs.declared.msg.TwoMsg.TheVariants as two
 use Rattle.two_phase.specs.declared.note.TwoNote.TheVariants as note
 use Rattle.two_phase.specs.Tables.{wrapped_step, with_told, inner_step}
 use Rattle.two_machine.proofs.Tables as core
-use Rattle.two_phase.proofs.AlikeLists.{Alike, alike-append}
+use Rattle.two_phase.proofs.AlikeLists.{alike-append}
 use Rattle.two_phase.proofs.RecordLaws.{Sound, Setting, sys, chunks}
 use Rattle.two_phase.proofs.Outlines
 use Rattle.two_phase.proofs.Outlines.{outline_note, IsGenuine, Shown, ShownTo, Sends, one_rule, HasRule, RulesShow, InstanceShows}
@@ -149,7 +150,7 @@ module _ {F R : Type 0} (setting : Setting R) where
 
   -- what is held, one after another
   all_follow : (index : ℕ) (i : InstanceState F R) (j : core.Inst (Sound f)) (cells : List FullCell) (ns : List ℕ) → InstanceShows setting index i j
-      → Alike (IsGenuine setting) cells ns → Follows index (wrapped_step (all_processed f i cells)) (core.all_processed (sys setting) index j ns)
+      → AllZip (IsGenuine setting) cells ns → Follows index (wrapped_step (all_processed f i cells)) (core.all_processed (sys setting) index j ns)
   unfolding all_processed
   all_follow index i j [] [] h g = still_follows index i j h
   all_follow index i j (cell ∷ cells) (n ∷ ns) h g =
@@ -165,7 +166,7 @@ module _ {F R : Type 0} (setting : Setting R) where
             (alike-append (ShownTo setting) (wrapped_step first).sends core_first.sends (wrapped_step later).sends core_later.sends one.sends rest.sends);
         notes =
             ap (read outline_note) (map-append note.Inner first.notes later.notes)
-            ∙ read-append outline_note (wrapped_step first).notes (wrapped_step later).notes
+            ∙ flat_map-append outline_note (wrapped_step first).notes (wrapped_step later).notes
             ∙ ap (λ xs. xs ++ read outline_note (wrapped_step later).notes) one.notes
             ∙ ap (λ xs. core_first.notes ++ xs) rest.notes;
       }

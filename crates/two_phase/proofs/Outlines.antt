@@ -2,6 +2,7 @@
 use Rattle.two_phase.proofs.Words.{◌≡◌, ℕ, Bool, true, Some, List, [], ◌∷◌, if◌then◌else◌, nat_lt, Flow, Packet, matches, IsFlow, Output, Action, Plain, Pass}
 use Rattle.two_phase.proofs.Words.{EventRule, Target, ToInstance, ToController, first_match, FullCell, WindowState, units_in, InstanceState, TwoMsg, TwoNote}
 use Rattle.two_phase.proofs.Words.{SwitchState, ControllerState, the_update, Rule, Free, Drops, Buffers, To_a, To_both, To_b}
+use Rattle.std.specs.List.{AllZip}
 use Rattle.event_filter.specs.declared.action.Action.TheVariants as action
 use Rattle.switch_rules.specs.Rules.{AreFilters}
 use Rattle.packet_window.specs.Window.{IsBalanced}
@@ -14,7 +15,6 @@ use Rattle.two_phase.specs.declared.phase.Phase.TheVariants as phase
 use Rattle.two_machine.proofs.Machine as m
 use Rattle.two_machine.proofs.Tables as core
 use Rattle.two_phase.proofs.RecordLaws.{Sound, Setting, chunks}
-use Rattle.two_phase.proofs.AlikeLists.{Alike}
 
 -- the phase that shows the reduced one
 abbrev pub phase_shown : m.Phase → Phase
@@ -99,7 +99,7 @@ module _ {R : Type 0} (setting : Setting R) where
   ShownTo x y = (x.0 ≡ y.0) × Shown x.1 y.1
 
   abbrev pub Sends : List (ℕ × TwoMsg) → List (ℕ × core.Msg (Sound f)) → Type 0
-  Sends xs ys = Alike ShownTo xs ys
+  Sends xs ys = AllZip ShownTo xs ys
 
   -- the event rule of the update with what it holds
   abbrev pub one_rule : Action → List FullCell → List (EventRule FullCell)
@@ -108,7 +108,7 @@ module _ {R : Type 0} (setting : Setting R) where
   pub record HasRule (rules : List (EventRule FullCell)) (act : Action) (held : List ℕ) : Type 0 where
     pub cells : List FullCell
     pub is : rules ≡ one_rule act cells
-    pub genuine : Alike IsGenuine cells held
+    pub genuine : AllZip IsGenuine cells held
 
   abbrev pub RulesShow : List (EventRule FullCell) → Rule → List ℕ → Type 0
   RulesShow rules Free held = (rules ≡ []) × (held ≡ [])
@@ -139,7 +139,7 @@ module _ {R : Type 0} (setting : Setting R) where
 
   pub record ControllerShows (c : ControllerState) (d : core.Ctrl (Sound f)) : Type 0 where
     pub cells : List FullCell
-    pub store : Alike IsGenuine cells d.store
+    pub store : AllZip IsGenuine cells d.store
     pub is : c ≡ real_ctrl cells d
 
   pub record SwitchShows (s : SwitchState) (t : core.Switch) : Type 0 where

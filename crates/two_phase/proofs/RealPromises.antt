@@ -1,10 +1,11 @@
 -- What is proved of the reduced network, in the words of the promises.
 use Rattle.two_phase.proofs.Words.{◌≡◌, ◌≤◌, ◌⊎◌, inl, inr, ℕ, suc, ◌+◌, ◌*◌, Bool, true, false, Option, Some, None, List, [], ◌∷◌, ◌++◌, map, drop, length}
-use Rattle.two_phase.proofs.Words.{refl, sym, ap, subst, ◌∙◌, arith, if◌then◌else◌, ◌==◌, ◌&&◌, slice_get, list_all, Global, nat_tests, Output, FunctionLaws}
-use Rattle.two_phase.proofs.Words.{Semantics, kept_after, output_for, Choice, Network, is_enabled, is_done, packet_numbered, TwoMsg, TwoNote, TwoNode, Switch}
-use Rattle.two_phase.proofs.Words.{SwitchState, node_ready, node_ended, UpdateJob, IsUpdateJob, items_of, inner_notes, switch_in, Published, read, read-append}
+use Rattle.two_phase.proofs.Words.{refl, sym, ap, subst, ◌∙◌, arith, if◌then◌else◌, ◌==◌, ◌&&◌, slice_get, list_all, Global, nat_tests, Output}
+use Rattle.two_phase.proofs.Words.{FunctionLaws, Semantics, kept_after, output_for, Choice, Network, is_enabled, is_done, packet_numbered, TwoMsg, TwoNote}
+use Rattle.two_phase.proofs.Words.{TwoNode, Switch, SwitchState, node_ready, node_ended, UpdateJob, IsUpdateJob, items_of, inner_notes}
+use Rattle.two_phase.proofs.Words.{switch_in, Published, read, flat_map-append}
 use Rattle.std.specs.Prelude.{filter_map, option_to_list, scan, fold as fold_over}
-use Rattle.std.specs.List.{cons_option, filter, list_any, position_or_len}
+use Rattle.std.specs.List.{AllZip, cons_option, filter, list_any, position_or_len}
 use Rattle.std.proofs.lemmas.Bool.{and_parts}
 use Rattle.std.proofs.lemmas.List.{length-map}
 use Rattle.std.specs.FinMap as finite
@@ -20,7 +21,6 @@ use Rattle.two_phase.specs.Promises.{is_low, after_low, verdicts, live_in, is_ma
 use Rattle.two_machine.proofs.Tables as core
 use Rattle.two_machine.proofs.View as view
 use Rattle.two_machine.proofs.Promises as promises
-use Rattle.two_phase.proofs.AlikeLists.{Alike}
 use Rattle.two_phase.proofs.RecordLaws.{Sound}
 use Rattle.two_phase.proofs.Outlines.{outline_note}
 use Rattle.two_phase.proofs.AlikeWorlds.{NodeShows, Switches, Controllers, Instances, enabled_same, done_same}
@@ -114,7 +114,7 @@ module _ (F : Type 0) {R : Type 0} (f : Semantics R) (laws : FunctionLaws f) (al
 
   -- records at nodes
   live_is : (u : units.Unit) (ws : List (TwoNode F R)) (vs : List (core.Node (Sound f) (Sound f)))
-      → Alike (NodeShows (setting F f laws alloc job is)) ws vs → filter_map (live_in u) ws ≡ filter_map (promises.live_in its u) vs
+      → AllZip (NodeShows (setting F f laws alloc job is)) ws vs → filter_map (live_in u) ws ≡ filter_map (promises.live_in its u) vs
   live_is u [] [] h = refl
   live_is u (x ∷ ws) (y ∷ vs) (Switches h, more) = live_is u ws vs more
   live_is u (x ∷ ws) (y ∷ vs) (Controllers h, more) = live_is u ws vs more
@@ -123,7 +123,7 @@ module _ (F : Type 0) {R : Type 0} (f : Semantics R) (laws : FunctionLaws f) (al
   live_is u z w h = absurd h
 
   -- cells at the switch
-  cells_of : (ws : List (TwoNode F R)) (vs : List (core.Node (Sound f) (Sound f))) → Alike (NodeShows (setting F f laws alloc job is)) ws vs
+  cells_of : (ws : List (TwoNode F R)) (vs : List (core.Node (Sound f) (Sound f))) → AllZip (NodeShows (setting F f laws alloc job is)) ws vs
       → promises.switch_window vs ≡ Some job.window
       → (s : SwitchState) × (switch_in (slice_get ws 0) ≡ Some s) × (s.window.flying + s.window.pool.home ≡ job.window)
   cells_of (x ∷ ws) (y ∷ vs) (Switches {s} {t} h, more) e =
@@ -225,7 +225,7 @@ module _ (F : Type 0) {R : Type 0} (f : Semantics R) (laws : FunctionLaws f) (al
           laid = λ before after at.
               after_come before
               ∙ every.laid.between (read outline_note before) (read outline_note after)
-              (sym log ∙ ap (read outline_note) at ∙ read-append outline_note before (note.High ∷ after));
+              (sym log ∙ ap (read outline_note) at ∙ flat_map-append outline_note before (note.High ∷ after));
           short = subst (λ n. length cs ≤ 8 * n + 32) count ends.short;
           goes_on = goes_on ends.goes_on;
           cells = cells;

@@ -37,7 +37,8 @@ pub use Rattle.switch_rules.specs.declared.target.Target.{Target}
 pub use Rattle.switch_rules.specs.declared.target.Target.TheVariants.{Instance as ToInstance, Controller as ToController}
 pub use Rattle.two_machine.proofs.Machine.{Buffers, Drops, Free, Rule, To_a, To_b, To_both}
 pub use Rattle.two_machine.proofs.Stages.{Rises}
-pub use Rattle.two_machine.proofs.View.{read, read-append}
+pub use Rattle.std.proofs.lemmas.List.Concat.{flat_map-append}
+pub use Rattle.two_machine.proofs.View.{read}
 pub use Rattle.two_phase.specs.Parts.{SwitchState, ControllerState}
 pub use Rattle.two_phase.specs.Promises.{Published, inner_notes, switch_in}
 pub use Rattle.two_phase.specs.Report.{named_instances}

@@ -3,6 +3,7 @@ use Rattle.nf_net.proofs.Words.{◌≡◌, ℕ, Bool, true, false, None, [], ref
 use Rattle.nf_net.proofs.Words.{controller_step, InstanceState, instance_step, arrivals_in, none_picked, IsQuiet, is_uninstalled, instance_quiet}
 use Rattle.nf_net.proofs.Words.{controller_uninstalled}
 use Rattle.net_world.specs.Log.{arrival_in}
+use Rattle.proof_outlines.proofs.joined.InstanceNotes.{quiet_arrival}
 
 -- a packet of the input
 abbrev pub is_packet : Msg → Bool
@@ -34,9 +35,5 @@ pub controller_notes_none : (s : ControllerState) (p : ℕ) (m : Msg) → arriva
 controller_notes_none s p m = none_picked arrival_in (λ n. is_uninstalled n ≡ true) no_arrival _ (controller_uninstalled s p m)
 
 -- An instance.
-quiet_arrival : (k : ℕ) (n : Note) → IsQuiet k n → arrival_in n ≡ None
-quiet_arrival k (Note.Arrived number) h = absurd h
-quiet_arrival k n h = refl
-
 pub instance_notes_none : {F R : Type 0} (f : Semantics R) (i : InstanceState F R) (m : Msg) → arrivals_in (instance_step f i m).notes ≡ []
 instance_notes_none f i m = none_picked arrival_in (IsQuiet i.index) (quiet_arrival i.index) _ (instance_quiet f i m)

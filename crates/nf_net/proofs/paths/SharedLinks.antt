@@ -1,16 +1,16 @@
 -- What a unit under a share sees of a link is its packets there: the share's packet on its way to a member, plain ones to the home, those that the
 -- controller hands on, and those that are diverted. Events have none of it.
-use Rattle.nf_net.proofs.Words.{◌≡◌, ℕ, Bool, true, false, Option, Some, None, List, [], ◌∷◌, ◌++◌, refl, sym, ap, ◌∙◌, append-nil, filter-append}
-use Rattle.nf_net.proofs.Words.{if◌then◌else◌, ◌==◌, option_map, cons_option, filter, filter_map, flat_map, Filter, RealChunk, Semantics, spelled}
-use Rattle.nf_net.proofs.Words.{same_unit-true, FullCell, Target, Command, Order, Msg, instance_node, record_at, where_true, add, UnitShare, forwarded}
-use Rattle.nf_net.proofs.Words.{diverted, MoveAsked, NothingOf, ShareLabel, unit_share, share_seen, share_items, Any, New, ShareAsked, ShareMsg, EachNew, olds}
-use Rattle.nf_net.proofs.Words.{same, SeeingShare, passed_in, carried_in, handed_over_in, number, entries, want_of, asked_of, want_share_of, Given, place, S, A}
-use Rattle.nf_net.proofs.Words.{shown, Label, Unit, Mark, split}
+use Rattle.nf_net.proofs.Words.{◌≡◌, ℕ, Bool, true, false, Option, Some, None, List, [], ◌∷◌, ◌++◌, refl, sym, ap, ◌∙◌, filter-append, if◌then◌else◌, ◌==◌}
+use Rattle.nf_net.proofs.Words.{option_map, cons_option, filter, filter_map, flat_map, Filter, RealChunk, Semantics, spelled, same_unit-true, FullCell, Target}
+use Rattle.nf_net.proofs.Words.{Command, Order, Msg, instance_node, record_at, where_true, add, UnitShare, forwarded, diverted, MoveAsked, NothingOf}
+use Rattle.nf_net.proofs.Words.{ShareLabel, unit_share, share_seen, share_items, Any, New, ShareAsked, ShareMsg, EachNew, olds, same, SeeingShare, passed_in}
+use Rattle.nf_net.proofs.Words.{carried_in, handed_over_in, number, entries, want_of, asked_of, want_share_of, Given, place, S, A, shown, Label, Unit, Mark}
+use Rattle.nf_net.proofs.Words.{split}
 use Rattle.actor_net.proofs.WeightLaws.{Each}
 use Rattle.proof_machines.proofs.unit.Labels as labels
 use Rattle.proof_machines.proofs.share.Share.{Item, Item.Carry, Item.Fence, Item.Shared, Item.Diverted, Item.Install, Item.Forward, Item.Get, Item.Sync}
-use Rattle.proof_machines.proofs.share.Share.{Item.Fenced, Item.Chunks, Item.Chunk, Item.Synced, Item.Stray, if_mine}
-use Rattle.proof_machines.proofs.share.Path.{carries, shared_in}
+use Rattle.proof_machines.proofs.share.Share.{Item.Fenced, Item.Chunks, Item.Chunk, Item.Synced, Item.Stray}
+use Rattle.proof_machines.proofs.share.Path.{shared_of, forward_of, divert_of, carries, shared_in}
 use Rattle.proof_machines.proofs.net.Net as net
 use Rattle.proof_machines.proofs.net.Shares.{Old}
 use Rattle.net_world.specs.Path as path
@@ -19,7 +19,7 @@ use Rattle.net_world.specs.Path as path
 module _ {R : Type 0} (h : UnitShare R) where
   shared-add : (o : Option (Item R)) (xs : List (Item R)) → shared_in h (add o xs) ≡ shared_in h (add o []) ++ shared_in h xs
   shared-add None xs = refl
-  shared-add (Some (Shared p)) xs = ap (λ v. v ++ shared_in h xs) (sym (append-nil (if_mine h p)))
+  shared-add (Some (Shared p)) xs = filter-append h.mine (p ∷ []) (filter_map shared_of xs)
   shared-add (Some x) xs = refl
 
   carries-add : (o : Option (Item R)) (xs : List (Item R)) → carries (add o xs) ≡ carries (add o []) ++ carries xs
@@ -29,12 +29,12 @@ module _ {R : Type 0} (h : UnitShare R) where
 
   forwarded-add : (o : Option (Item R)) (xs : List (Item R)) → forwarded h (add o xs) ≡ forwarded h (add o []) ++ forwarded h xs
   forwarded-add None xs = refl
-  forwarded-add (Some (Forward p m)) xs = ap (λ v. v ++ forwarded h xs) (sym (append-nil (if_mine h p)))
+  forwarded-add (Some (Forward p m)) xs = filter-append h.mine (p ∷ []) (filter_map forward_of xs)
   forwarded-add (Some x) xs = refl
 
   diverted-add : (o : Option (Item R)) (xs : List (Item R)) → diverted h (add o xs) ≡ diverted h (add o []) ++ diverted h xs
   diverted-add None xs = refl
-  diverted-add (Some (Diverted p)) xs = ap (λ v. v ++ diverted h xs) (sym (append-nil (if_mine h p)))
+  diverted-add (Some (Diverted p)) xs = filter-append h.mine (p ∷ []) (filter_map divert_of xs)
   diverted-add (Some x) xs = refl
 
 -- the packets of a message, or of items, kind by kind
@@ -104,10 +104,7 @@ module _ {R : Type 0} (f : Semantics R) (g : Given) (z : SeeingShare) where
   shared_read op home cell right own other = split (op == z.num)
       (λ b. IsRead (Msg.Carry (Mark.Shared op home) cell)
       (if b then Some (if right then Shared (number cell) else Stray) else where_true (mine (number cell)) Stray))
-      (λ on. let ok = own on in
-      rw ok (elim (mine (number cell))
-      as (λ b. ◌≡◌ {A = Reading} (record { shared = if b then number cell ∷ [] else []; carry = []; forward = []; divert = [] })
-      (record { shared = (if b then number cell ∷ [] else []) ++ []; carry = []; forward = []; divert = [] })) [ true ↦ refl | false ↦ refl ]))
+      (λ on. let ok = own on in rw ok refl)
       (λ off. let no = other off in rw no refl)
 
   forward_read : (to op : ℕ) (home : Bool) (cell : FullCell) (right : Bool) → ((op == z.num) ≡ true → right ≡ true)
@@ -116,10 +113,7 @@ module _ {R : Type 0} (f : Semantics R) (g : Given) (z : SeeingShare) where
   forward_read to op home cell right own other = split (op == z.num)
       (λ b. IsRead (Msg.Forward to (Mark.Shared op home) cell)
       (if b then Some (if right then Forward (number cell) (instance_node to) else Stray) else where_true (mine (number cell)) Stray))
-      (λ on. let ok = own on in
-      rw ok (elim (mine (number cell))
-      as (λ b. ◌≡◌ {A = Reading} (record { shared = []; carry = []; forward = if b then number cell ∷ [] else []; divert = [] })
-      (record { shared = []; carry = []; forward = (if b then number cell ∷ [] else []) ++ []; divert = [] })) [ true ↦ refl | false ↦ refl ]))
+      (λ on. let ok = own on in rw ok refl)
       (λ off. let no = other off in rw no refl)
 
   module _ (covered : (S f g).takes z.filter z.unit ≡ true) where
@@ -134,9 +128,7 @@ module _ {R : Type 0} (f : Semantics R) (g : Given) (z : SeeingShare) where
     diverted_read cell =
         split ((S f g).takes z.filter ((S f g).packet_unit (number cell)))
         (λ b. IsRead (Msg.Diverted cell) (if b then Some (Diverted (number cell)) else where_true (mine (number cell)) Stray))
-        (λ _. elim (mine (number cell))
-        as (λ b. ◌≡◌ {A = Reading} (record { shared = []; carry = []; forward = []; divert = if b then number cell ∷ [] else [] })
-        (record { shared = []; carry = []; forward = []; divert = (if b then number cell ∷ [] else []) ++ [] })) [ true ↦ refl | false ↦ refl ])
+        (λ _. refl)
         (λ out. let no = not_taken (number cell) out in rw no refl)
 
     asked_read : (k : Command) (r : ℕ) (what : Order) → IsRead (Msg.Asked k) (item_of r (asked_of f (place g) k.op what))

@@ -2,9 +2,9 @@
 use Rattle.nf_net.proofs.Words.{◌≡◌, ℕ, ◌<◌, ◌≤◌, Bool, true, false, Option, Some, None, List, [], ◌∷◌, ◌++◌, refl, sym, ap, ◌∙◌, subst, arith, if◌then◌else◌}
 use Rattle.nf_net.proofs.Words.{◌==◌, ◌&&◌, nat_lt, slice_get, filter, filter_map, flat_map, nat_tests, filter-append, FullCell, Operation, Move, Copy, Share}
 use Rattle.nf_net.proofs.Words.{on_link, Each, UnitShare, View, mine_in, shape, OfShare, Open, find_op, RestRule, NothingOf, none_mine, ShareLabel, label_of}
-use Rattle.nf_net.proofs.Words.{unit_share, share_expect, share_items, as_share, ShareAsked, OpenShare, EachNew, olds, SeeingShare, seeing, lasts, passed_in}
-use Rattle.nf_net.proofs.Words.{carried_in, forwarded_in, handed_over_in, diverted_in, stored_by, queued_by, held_by, on_links, Sees, but_shares, both, Given}
-use Rattle.nf_net.proofs.Words.{place, S, A, shown, given, Unit, either_way, split}
+use Rattle.nf_net.proofs.Words.{unit_share, share_expect, share_items, as_share, ShareAsked, EachNew, olds, SeeingShare, seeing, lasts, passed_in, carried_in}
+use Rattle.nf_net.proofs.Words.{forwarded_in, handed_over_in, diverted_in, stored_by, queued_by, held_by, on_links, Sees, but_shares, both, Given, place, S, A}
+use Rattle.nf_net.proofs.Words.{shown, given, Unit, either_way}
 use Rattle.proof_machines.proofs.share.Path.{carries, shared_in, forwarded as forwards, diverted as diverts}
 use Rattle.proof_machines.proofs.net.NewMessages.{each_new_map}
 use Rattle.proof_machines.proofs.net.ShareLabels.{queue_other}
@@ -143,11 +143,6 @@ module _ {F R : Type 0} (here : Reached F R) (u : Unit) (x : ShareAsked) (before
   store_is = stored_for here mine 0 (λ q off. other_store q) ∙ other_store 0
 
   -- What waits for shares waits for its own.
-  those_in : (ps : List ℕ) → filter mine ps ≡ mine_in own_share ps
-  those_in [] = refl
-  those_in (p ∷ ps) = split (mine p) (λ b. (if b then p ∷ filter mine ps else filter mine ps) ≡ (if b then p ∷ [] else []) ++ mine_in own_share ps)
-      (λ _. ap (λ l. p ∷ l) (those_in ps)) (λ _. those_in ps)
-
   none_those : (ps : List ℕ) → Each (λ p. mine p ≡ false) ps → filter mine ps ≡ []
   none_those [] h = refl
   none_those (p ∷ ps) h = let off = h.0 in rw off (none_those ps h.1)
@@ -169,7 +164,7 @@ module _ {F R : Type 0} (here : Reached F R) (u : Unit) (x : ShareAsked) (before
       queued_for here mine x.num
       (λ q off. queue_at q (let out : (q == x.num) ≡ false = grind (arith, nat_tests, off) in out) (its_got q) refl)
       ∙ ap (λ o. filter mine (if lasts o then numbers (its_cells x.num) else [])) r.there
-      ∙ ap (filter mine) (sym queue) ∙ those_in v.queue
+      ∙ ap (filter mine) (sym queue)
 
   -- What stands at an instance.
   module _ (i : ℕ) (two : 2 ≤ i) (few : i < n) where

@@ -1,7 +1,7 @@
 -- The whole world's steps as moves see them: a step on a message of a move is, to every unit, that of the moves' world; a step on a
 -- message of a share leaves the controller's moves as they are.
 use Rattle.proof_machines.proofs.net.Words.{◌≡◌, ℕ, Bool, true, false, Option, Some, None, List, [], ◌∷◌, ◌++◌, drop, refl, sym, ap, ◌∙◌, append-nil, arith}
-use Rattle.proof_machines.proofs.net.Words.{if◌then◌else◌, ◌&&◌, ◌==◌, option_map_or, nat_tests, sent_for, Each, EachSent, Msg, MoveAsked, Sys, process}
+use Rattle.proof_machines.proofs.net.Words.{if◌then◌else◌, ◌&&◌, ◌==◌, option_map_or, nat_tests, sent_for, each_any, EachSent, Msg, MoveAsked, Sys, process}
 use Rattle.proof_machines.proofs.net.Words.{inst_step, ctrl_step, sw_sends, begin_sends, behind, links_after, inst_next, ctrl_next, sw_next, begin_next, Any}
 use Rattle.proof_machines.proofs.net.Words.{Old, New, ShareMsg, Shared_on, olds, as_old, Sharing, OpenShare, Told, Is_fenced, share_row, told_by, by_share}
 use Rattle.proof_machines.proofs.net.Words.{shared_chunk, member_step, WholeWorld, moves_of, whole_inst, whole_ctrl, whole_switch, begin_move, Unit}
@@ -97,10 +97,6 @@ module _ {R : Type 0} (S : Sys R) (A : Sharing S) where
   none_old e ((j, Old m) ∷ xs) h = absurd h.0
   none_old e ((j, New m) ∷ xs) h = none_old e xs h.1
 
-  all_kept : (q : List ℕ) → Each (λ _. Prim.Unit {0}) q
-  all_kept [] = tt
-  all_kept (p ∷ q) = (tt, all_kept q)
-
   any_told : (e : OpenShare) (told : Told R) → ToldOf S A e (λ _. Prim.Unit {0}) (λ _. Prim.Unit {0}) told
   any_told e Is_fenced = tt
   any_told e told = tt
@@ -108,7 +104,7 @@ module _ {R : Type 0} (S : Sys R) (A : Sharing S) where
   pub by_share_new : (es : List OpenShare) (sender : ℕ) (o : Option (OpenShare × Told R)) → old_sends (by_share S A es sender o).sends ≡ []
   by_share_new es sender None = refl
   by_share_new es sender (Some x) = none_old x.0 (share_row S A x.0 sender x.1).sends
-      (share_row_by S A x.0 (λ _. Prim.Unit {0}) (λ _. Prim.Unit {0}) sender x.1 (any_told x.0 x.1) (all_kept x.0.queue)).1
+      (share_row_by S A x.0 (λ _. Prim.Unit {0}) (λ _. Prim.Unit {0}) sender x.1 (any_told x.0 x.1) (each_any x.0.queue)).1
 
   chunk_new : (n p : ℕ) (t : S.B.T) → old_sends (shared_chunk S A n p t) ≡ []
   chunk_new n p t = elim (S.B.at (S.packet_unit p) t) as (λ o. old_sends (option_map_or (λ r. (1, New (ShareMsg.Shared n (S.packet_unit p, r))) ∷ []) o [])

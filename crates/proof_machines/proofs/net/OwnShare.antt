@@ -2,7 +2,8 @@
 use Rattle.proof_machines.proofs.net.Words.{◌≡◌, ℕ, ◌≤◌, Bool, true, false, Option, Some, List, [], ◌∷◌, ◌++◌, map, refl, sym, ap, ◌∙◌, subst, append-nil}
 use Rattle.proof_machines.proofs.net.Words.{arith, if◌then◌else◌, ◌==◌, nat_tests, Decides-eqb, nat_eq_equiv, record_at, where_true, add, sent_for}
 use Rattle.proof_machines.proofs.net.Words.{filter_map-append, sent_for-append, Forward, Get, Sync, Diverted, Fenced, Chunk, Synced, Stray, UnitShare}
-use Rattle.proof_machines.proofs.net.Words.{SharePhase, Idle, Out, has, without_number, only, nowhere, waits, sync_to, serves, said_to, share_does, distinct}
+use Rattle.proof_machines.proofs.net.Words.{SharePhase, Getting, Idle, Out, has, without_number, only, nowhere, waits, sync_to, serves, said_to, share_does}
+use Rattle.proof_machines.proofs.net.Words.{distinct}
 use Rattle.proof_machines.proofs.net.Words.{IsShare, self, has-without, apart_of, Sys, mine, unit_share, fit, share_seen, share_items, as_share, Any, New}
 use Rattle.proof_machines.proofs.net.Words.{ShareMsg, same, Sharing, OpenShare, Told, Is_fenced, Has_chunks, Has_chunk, Is_synced, Has_packet, ShareTurn, s_row}
 use Rattle.proof_machines.proofs.net.Words.{s_serves, share_row, share_words, SeeingShare, split, false_from_ne_true, Unit}
@@ -84,36 +85,25 @@ module _ {R : Type 0} (S : Sys R) (A : Sharing S) (z : SeeingShare) (is : IsShar
     abbrev e : OpenShare
     e = as_share S A z ph0 q0
 
-    -- the unit sees what is said
-    pub record Shows (s : Said ℕ (Real.Chunks R)) (t : Said ℕ (Option R)) : Type 0 where
-      pub to_s : share_items S A z 0 (sent_for 0 (share_says e s)) ≡ said_to_switch t
-      pub to : (k : ℕ) → (k == 0) ≡ false → share_items S A z k (sent_for k (share_says e s)) ≡ said_to f t k
-
-    goes : (q : List ℕ) {s : Said ℕ (Real.Chunks R)} {t : Said ℕ (Option R)} → Shows s t → (ph : SharePhase)
+    -- what is said, as the unit sees it
+    goes : (q : List ℕ) (s : Said ℕ (Real.Chunks R)) (t : Said ℕ (Option R)) → share_items S A z 0 (sent_for 0 (share_says e s)) ≡ said_to_switch t
+        → ((k : ℕ) → (k == 0) ≡ false → share_items S A z k (sent_for k (share_says e s)) ≡ said_to f t k) → (ph : SharePhase)
         → SeesRow ((share_words S A e q).next ph s) ((words f q).next (map_phase (λ m. m) ph) t)
-    goes q shows ph = record { phase = sym (phase_same ph); queue = refl; to_s = shows.to_s; to = shows.to }
-
-    none : Shows said.Nothing said.Nothing
-    none = record { to_s = refl; to = λ k _. refl }
+    goes q s t to_s to ph = record { phase = sym (phase_same ph); queue = refl; to_s = to_s; to = to }
 
     follow : (q : List ℕ) → Follow (share_words S A e q) (words f q) (λ m. m) SeesRow
     follow q = record {
       home = refl;
       others = λ one. refl;
-      nothing = goes q none;
-      get = record {
-        phase = refl;
-        queue = refl;
-        to_s = get_seen 0 ∙ (let away : (0 == z.home) ≡ false = nat_eq_equiv.symm 0 z.home ∙ home_0 in rw away refl);
-        to = λ k _. get_seen k;
-      };
+      nothing = goes q said.Nothing said.Nothing refl (λ k _. refl);
+      get = goes q said.Get said.Get (get_seen 0 ∙ (let away : (0 == z.home) ≡ false = nat_eq_equiv.symm 0 z.home ∙ home_0 in rw away refl))
+          (λ k _. get_seen k) Getting;
       done = λ r. r;
     }
 
     syncs_show : (q : List ℕ) (cs : Real.Chunks R) (one : ℕ) (ph : SharePhase)
         → SeesRow ((share_words S A e q).next ph (said.Sync one cs)) ((words f q).next (map_phase (λ m. m) ph) (said.Sync one (record_at z.unit cs)))
-    syncs_show q cs one ph = goes q {s = said.Sync one cs} {t = said.Sync one (record_at z.unit cs)}
-        (record { to_s = none_to_s one cs; to = λ k _. syncs_seen one cs k }) ph
+    syncs_show q cs one = goes q (said.Sync one cs) (said.Sync one (record_at z.unit cs)) (none_to_s one cs) (λ k _. syncs_seen one cs k)
 
     as_is : (r : ShareTurn R) (d : SharePhase → ControllerTurn R) → SeesRow r (d (map_phase (λ m. m) ph0)) → SeesRow r (d ph0)
     as_is r d h = subst (λ ph. SeesRow r (d ph)) (phase_same ph0) h
@@ -154,16 +144,14 @@ module _ {R : Type 0} (S : Sys R) (A : Sharing S) (z : SeeingShare) (is : IsShar
     abbrev Row : ℕ → Told R → ShareTurn R
     Row sender told = share_row S A e sender told
 
-    is_home : (k : ℕ) → k ≡ z.home → (k == z.home) ≡ true
-    is_home k e = (Decides-eqb k z.home).1 e
-
     pub fenced_sees : (sender : ℕ) → Sender f ph0 sender Fenced → SeesRow (Row sender Is_fenced) (share_does f Fenced ph0 q0)
-    fenced_sees sender from = let on = is_home sender from in
+    fenced_sees sender from = let on = (Decides-eqb sender z.home).1 from in
         rw on (served _ _ (as_is _ (λ ph. on_fenced (words f q0) ph) (fenced_follows (follow q0) ph0)))
 
     pub chunks_sees : (sender : ℕ) (cs : Real.Chunks R) → Sender f ph0 sender (Chunks (record_at z.unit cs))
         → SeesRow (Row sender (Has_chunks cs)) (share_does f (Chunks (record_at z.unit cs)) ph0 q0)
-    chunks_sees sender cs from = let on = is_home sender from in rw on (served _ _ (as_is _ (λ ph. on_chunks (words f q0) ph (record_at z.unit cs))
+    chunks_sees sender cs from = let on = (Decides-eqb sender z.home).1 from in
+        rw on (served _ _ (as_is _ (λ ph. on_chunks (words f q0) ph (record_at z.unit cs))
         (chunks_follows (follow q0) cs (record_at z.unit cs) (syncs_show q0 cs) ph0)))
 
     pub chunk_sees : (sender : ℕ) (c : Unit × R) → Sender f ph0 sender (Chunk (record_at z.unit (c ∷ [])))

@@ -16,6 +16,11 @@ pub cond-append : {X : Type 0} (b : Bool) (xs ys zs ws : List X) → cond b xs y
 cond-append true xs ys zs ws = refl
 cond-append false xs ys zs ws = refl
 
+-- more behind a list that may begin with this one
+pub cond-cons : {X : Type 0} (b : Bool) (x : X) (xs ys : List X) → cond b (x ∷ xs) xs ++ ys ≡ cond b (x ∷ (xs ++ ys)) (xs ++ ys)
+cond-cons true x xs ys = refl
+cond-cons false x xs ys = refl
+
 pub cond-cond : {X : Type 0} (b : Bool) (x y z : X) → cond b x (cond b y z) ≡ cond b x z
 cond-cond true x y z = refl
 cond-cond false x y z = refl

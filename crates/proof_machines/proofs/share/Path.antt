@@ -1,13 +1,13 @@
 -- The path of a stage is what waits of the unit in its view, place by place: carried to members, forwarded, plain on the link to home, in
 -- the queue, and diverted.
-use Rattle.std.proofs.Common.{◌≡◌, ℕ, Bool, true, false, cond, ◌==◌, Option, Some, None, List, [], ◌∷◌, ◌++◌, map, refl, sym, ap, subst, append_assoc}
-use Rattle.std.proofs.Common.{append-nil, arith}
+use Rattle.std.proofs.Common.{◌≡◌, ℕ, Bool, true, false, cond, ◌==◌, Option, Some, None, List, [], ◌∷◌, ◌++◌, map, refl, sym, subst, append_assoc, append-nil}
+use Rattle.std.proofs.Common.{arith}
 use Rattle.std.specs.List.{filter_map, flat_map}
 use Rattle.std.proofs.lemmas.Bool.Decides.{nat_tests, Decides-eqb}
 use Rattle.std.proofs.lemmas.List.Elements.{filter_map-append}
 use Rattle.proof_machines.proofs.unit.Lists.{picked_each}
-use Rattle.proof_machines.proofs.share.Share.{Item, Item.Carry, Item.Fence, Item.Shared, Item.Diverted, Item.Forward, UnitShare, View, has, if_mine, mine_in}
-use Rattle.proof_machines.proofs.share.Share.{only, nowhere}
+use Rattle.proof_machines.proofs.share.Share.{Item, Item.Carry, Item.Fence, Item.Shared, Item.Diverted, Item.Forward, UnitShare, View, has, mine_in, only}
+use Rattle.proof_machines.proofs.share.Share.{nowhere}
 use Rattle.proof_machines.proofs.share.Stages.{Stage, Stage.Diverting, Stage.Fence_goes, Stage.Carries, shape, path, distinct, IsShare}
 use Rattle.proof_machines.proofs.share.Lists.{self, apart_of}
 use Rattle.proof_machines.proofs.Tests.{split}
@@ -23,20 +23,26 @@ carry_of x = None
 abbrev pub carries : {R : Type 0} → List (Item R) → List ℕ
 carries xs = filter_map carry_of xs
 
+abbrev pub shared_of : {R : Type 0} → Item R → Option ℕ
+shared_of (Shared p) = Some p
+shared_of x = None
+
 abbrev pub shared_in : {R : Type 0} → UnitShare R → List (Item R) → List ℕ
-shared_in f [] = []
-shared_in f (Shared p ∷ xs) = if_mine f p ++ shared_in f xs
-shared_in f (_ ∷ xs) = shared_in f xs
+shared_in f xs = mine_in f (filter_map shared_of xs)
+
+abbrev pub forward_of : {R : Type 0} → Item R → Option ℕ
+forward_of (Forward p m) = Some p
+forward_of x = None
 
 abbrev pub forwarded : {R : Type 0} → UnitShare R → List (Item R) → List ℕ
-forwarded f [] = []
-forwarded f (Forward p m ∷ xs) = if_mine f p ++ forwarded f xs
-forwarded f (_ ∷ xs) = forwarded f xs
+forwarded f xs = mine_in f (filter_map forward_of xs)
+
+abbrev pub divert_of : {R : Type 0} → Item R → Option ℕ
+divert_of (Diverted p) = Some p
+divert_of x = None
 
 abbrev pub diverted : {R : Type 0} → UnitShare R → List (Item R) → List ℕ
-diverted f [] = []
-diverted f (Diverted p ∷ xs) = if_mine f p ++ diverted f xs
-diverted f (_ ∷ xs) = diverted f xs
+diverted f xs = mine_in f (filter_map divert_of xs)
 
 abbrev pub path_of : {R : Type 0} → UnitShare R → View R → List ℕ
 path_of f x = shared_in f (gather f.members x.sw) ++ (forwarded f x.cs ++ (carries (x.sw f.home) ++ (mine_in f x.queue ++ diverted f x.sc)))
@@ -76,24 +82,19 @@ divert p = Diverted p
 all_carries : (R : Type 0) (l : List ℕ) → carries (map (carry {R = R}) l) ≡ l
 all_carries R l = picked_each carry_of carry (λ p. refl) l
 
-no_shared : {R : Type 0} (f : UnitShare R) (l : List ℕ) → shared_in f (map carry l) ≡ []
-no_shared f [] = refl
-no_shared f (p ∷ l) = no_shared f l
+no_shared : (R : Type 0) (l : List ℕ) → filter_map shared_of (map (carry {R = R}) l) ≡ []
+no_shared R [] = refl
+no_shared R (p ∷ l) = no_shared R l
 
-no_shared_fence : {R : Type 0} (f : UnitShare R) (l : List ℕ) → shared_in f (map carry l ++ Fence ∷ []) ≡ []
-no_shared_fence f [] = refl
-no_shared_fence f (p ∷ l) = no_shared_fence f l
-
-all_diverted : {R : Type 0} (f : UnitShare R) (v : List ℕ) → diverted f (map divert v) ≡ mine_in f v
-all_diverted f [] = refl
-all_diverted f (p ∷ v) = ap (λ z. if_mine f p ++ z) (all_diverted f v)
+all_diverted : (R : Type 0) (v : List ℕ) → filter_map divert_of (map (divert {R = R}) v) ≡ v
+all_diverted R v = picked_each divert_of divert (λ p. refl) v
 
 -- at home nothing but plain packets counts as such, whichever member the share's packet is on its way to
 not_plain : (R : Type 0) (b : Bool) (p : ℕ) → carries {R = R} (cond b (Shared p ∷ []) []) ≡ []
 not_plain R true p = refl
 not_plain R false p = refl
 
-ruleset reads = (filter_map-append, all_carries, no_shared, no_shared_fence, all_diverted, not_plain, gather_none, append_assoc, append-nil)
+ruleset reads = (filter_map-append, all_carries, no_shared, all_diverted, not_plain, gather_none, append_assoc, append-nil)
 
 pub path_is : {R : Type 0} (f : UnitShare R) → IsShare f → (s : Stage R) → path_of f (shape f s) ≡ path f s
 path_is f is (Diverting d b l) = rw (gather_only f.members f.home (map carry l) is.apart is.home_in, self f.home) (simp reads)

@@ -3,18 +3,18 @@ use Rattle.std.proofs.Common.{◌≡◌, ℕ, ◌+◌, Bool, true, false, cond, 
 use Rattle.std.proofs.Common.{append-nil}
 use Rattle.std.proofs.lemmas.Bool.Decides.{Decides-eqb}
 use Rattle.std.proofs.lemmas.List.{map-append}
-use Rattle.std.proofs.lemmas.Grind.{flat_map-append}
+use Rattle.std.proofs.lemmas.List.Elements.{filter-append}
 use Rattle.proof_machines.proofs.share.Share.{Ran, Item, Item.Carry, Item.Fence, UnitShare, View, ShareMachineStep, ShareMachineStep.Arrive}
 use Rattle.proof_machines.proofs.share.Share.{ShareMachineStep.Take_cs, ShareMachineStep.Take_sc, ShareMachineStep.Take_sw, has, if_mine, after, only, moved}
 use Rattle.proof_machines.proofs.share.Share.{from_sw}
 use Rattle.proof_machines.proofs.share.Stages.{Stage, Stage.Diverting, Stage.Fence_goes, Stage.Fenced_comes, front, early, late, shape, IsFront, FitsStage}
 use Rattle.proof_machines.proofs.share.Stages.{Alike, brings, Leads}
-use Rattle.proof_machines.proofs.share.Lists.{cond-same, cond-append, cond-cond, self, runs-append, packets-served}
+use Rattle.proof_machines.proofs.share.Lists.{cond-same, cond-append, cond-cons, cond-cond, self, runs-append, packets-served}
 use Rattle.proof_machines.proofs.Tests.{split}
 
 pub ruleset links = (cond-append, cond-cond, cond-same, append-nil, map-append)
 
-pub ruleset orders = (map-append, packets-served, flat_map-append, append_assoc, append-nil)
+pub ruleset orders = (map-append, packets-served, filter-append, cond-cons, append_assoc, append-nil)
 
 -- a link that only one instance has
 pub at_only : {X : Type 0} (P : ℕ → List X → Type 0) (h j : ℕ) (xs : List X) → P h xs → P j [] → P j (only h xs j)

@@ -2,7 +2,6 @@
 -- switch is 0, the controller 1, instances are from 2.
 use Rattle.std.proofs.Common.{ℕ, Bool, true, false, Option, Some, None, List, [], ◌∷◌, ◌++◌, map, length}
 use Rattle.std.specs.Prelude.{if◌then◌else◌, ◌==◌, not, filter}
-use Rattle.std.specs.List.{flat_map}
 use Rattle.copy_share.specs.declared.share_phase.SharePhase.{SharePhase}
 use Rattle.copy_share.specs.ShareTable as said
 use Rattle.copy_share.specs.ShareTable.{Said, Words, on_fenced, on_chunks, on_shared, on_synced, service_if_idle}
@@ -65,7 +64,7 @@ abbrev pub if_mine : {R : Type 0} → UnitShare R → ℕ → List ℕ
 if_mine f p = if f.mine p then p ∷ [] else []
 
 abbrev pub mine_in : {R : Type 0} → UnitShare R → List ℕ → List ℕ
-mine_in f ps = flat_map (if_mine f) ps
+mine_in f ps = filter f.mine ps
 
 -- what the chunk of a packet shows of the unit
 abbrev pub chunk_of : {R : Type 0} → UnitShare R → ℕ → Option R → Option R

@@ -12,7 +12,6 @@ use Rattle.instance_worker.specs.Instance.{Step, process_step, all_processed, on
 use Rattle.proof_outlines.proofs.joined.Words.{is_whole, number, rule_of, is_done, IsInstance, held_genuine, may_process, refusal_of, WaysOfInstance}
 use Rattle.proof_outlines.proofs.joined.Words.{instance_fits, Given, place, Genuine, AreGoodChunks, Label}
 use Rattle.proof_outlines.proofs.whole.MemberTables.{AreBothSound, with_part_sound, part_sound, records_sound, newest_sound}
-use Rattle.proof_outlines.proofs.joined.InstanceNotes.{AreOwn, IsOwn}
 use Rattle.proof_outlines.proofs.joined.InstanceKeeps.{sound_after, sound_without, valid_chunks}
 use Rattle.proof_outlines.proofs.joined.InstanceSends.{stream_sends, get_sends, shared_sends}
 
@@ -68,7 +67,6 @@ module _ {F R : Type 0} (f : Semantics R) (g : Given) where
   pub record Leaves (k : ℕ) (step : Step F R) : Type 0 where
     pub node : IsRight k step.node
     pub stands : AreSound f step.node.table.standby
-    pub notes : AreOwn k step.notes
     pub sends : EachSent (Label f g) k step.sends
 
 module _ {F R : Type 0} (f : Semantics R) (laws : FunctionLaws f) (g : Given) (fitting : (number : ℕ) → Fits g.site (g.packet number)) (k : ℕ)
@@ -115,21 +113,19 @@ module _ {F R : Type 0} (f : Semantics R) (laws : FunctionLaws f) (g : Given) (f
       record {
         node = same_right i after h refl refl refl both.live;
         stands = both.standby;
-        notes = (h.number, tt);
         sends = told_sends after mk (unit_at f.kind i.site cell.packet) cell both genuine.pool;
       }
 
   all_leave : (i : Instance F R) (cells : List FullCell) → Right i → AreSound f i.table.standby → Each (Genuine f g) cells
       → Leaves f g k (all_processed f i cells)
   unfolding all_processed
-  all_leave i [] h stands all = record { node = h; stands = stands; notes = tt; sends = tt }
+  all_leave i [] h stands all = record { node = h; stands = stands; sends = tt }
   all_leave i (cell ∷ cells) h stands all =
       let one = processed_leaves i Mark.Plain cell h stands all.0 in
       let rest = all_leave (process_step f i Mark.Plain cell).node cells one.node one.stands all.1 in
       record {
         node = rest.node;
         stands = rest.stands;
-        notes = each-append (IsOwn k) (process_step f i Mark.Plain cell).notes _ one.notes rest.notes;
         sends = sent-append (Label f g) k (process_step f i Mark.Plain cell).sends _ one.sends rest.sends;
       }
 
@@ -148,7 +144,7 @@ module _ {F R : Type 0} (f : Semantics R) (laws : FunctionLaws f) (g : Given) (f
     where
       by_action : (a : Action) → r.action ≡ a → Leaves f g k (carry_step f i Mark.Plain cell (rules.decided r.op r.action))
       by_action Action.Process e = let off : true ≡ false = rw e at (ruled r refl) in cc
-      by_action Action.Drop e = rw e (record { node = h; stands = stands; notes = tt; sends = (((two, refl), genuine), tt) })
+      by_action Action.Drop e = rw e (record { node = h; stands = stands; sends = (((two, refl), genuine), tt) })
       by_action Action.Buffer e = rw e (record {
         node = with_rules i (rules.with_held i.rules r.op cell) h
             (rules_changed (λ x. is_whole f.kind x.filter ≡ true) r.op (rules.holding cell) (λ x t. t) i.rules h.rules.whole)
@@ -157,7 +153,6 @@ module _ {F R : Type 0} (f : Semantics R) (laws : FunctionLaws f) (g : Given) (f
             (rules_changed (λ x. is_free (rule_of x.action) ≡ false) r.op (rules.holding cell) (λ x t. t) i.rules h.held)
             (one_each-changed i.rules r.op (rules.holding cell) (λ x. refl) h.rules.one_each);
         stands = stands;
-        notes = tt;
         sends = tt;
       })
 
@@ -180,7 +175,6 @@ module _ {F R : Type 0} (f : Semantics R) (laws : FunctionLaws f) (g : Given) (f
       record {
         node = all.node;
         stands = all.stands;
-        notes = each-append (IsOwn k) (all_processed f j cells).notes [] all.notes tt;
         sends = sent-append (Label f g) k (all_processed f j cells).sends _ all.sends ((two, refl), tt);
       }
 
@@ -207,7 +201,7 @@ module _ {F R : Type 0} (f : Semantics R) (laws : FunctionLaws f) (g : Given) (f
 
   ways : WaysOfInstance f Allows
   ways = record {
-    still = λ i m e p l h s. record { node = h; stands = s; notes = tt; sends = tt };
+    still = λ i m e p l h s. record { node = h; stands = s; sends = tt };
     held = λ i mk cell op e. cc;
     processed = λ i mk cell e. cc;
     released = λ i op cell e. cc;
@@ -217,7 +211,7 @@ module _ {F R : Type 0} (f : Semantics R) (laws : FunctionLaws f) (g : Given) (f
     event = λ i mk cell op e. cc;
     fenced = λ i op e. cc;
     stopped = λ i e p l h s.
-        record { node = same_right i (record i { ended = true }) h refl refl refl h.sound; stands = s; notes = tt; sends = ((two, refl), tt) };
+        record { node = same_right i (record i { ended = true }) h refl refl refl h.sound; stands = s; sends = ((two, refl), tt) };
     enabled = λ i op filter act e p l h s. record {
       node = with_rules i (rules.with_rule i.rules op filter act) h
           (rules_set (λ x. is_whole f.kind x.filter ≡ true) op filter act i.rules (λ x t. l.1) l.1 h.rules.whole)
@@ -225,42 +219,37 @@ module _ {F R : Type 0} (f : Semantics R) (laws : FunctionLaws f) (g : Given) (f
           (rules_set (λ x. is_free (rule_of x.action) ≡ false) op filter act i.rules (λ x t. l.2) l.2 h.held)
           (one_each-with_rule i.rules op filter act h.rules.one_each);
       stands = s;
-      notes = tt;
       sends = ((two, refl), tt);
     };
-    given = λ i op filter e p l h s. record { node = h; stands = s; notes = (tt, tt); sends = get_sends f laws g k op filter i.table.live two h.sound };
-    streamed = λ i op filter e p l h s. record { node = h; stands = s; notes = (tt, tt); sends = stream_sends f laws g k op filter i.table.live two h.sound };
-    all_given = λ i op e p l h s. record { node = h; stands = s; notes = tt; sends = ((two, refl), tt) };
+    given = λ i op filter e p l h s. record { node = h; stands = s; sends = get_sends f laws g k op filter i.table.live two h.sound };
+    streamed = λ i op filter e p l h s. record { node = h; stands = s; sends = stream_sends f laws g k op filter i.table.live two h.sound };
+    all_given = λ i op e p l h s. record { node = h; stands = s; sends = ((two, refl), tt) };
     deleted = λ i op gone e p l h s. record {
       node = same_right i (on_delete i op gone).node h refl refl refl (sound_without f laws gone i.table.live h.sound);
       stands = s;
-      notes = tt;
       sends = ((two, refl), tt);
     };
     refused = λ i op piece first why is e p l h s.
-        record { node = h; stands = s; notes = tt; sends = (((two, refl), l.1.good, refused_is i piece first why is), tt) };
+        record { node = h; stands = s; sends = (((two, refl), l.1.good, refused_is i piece first why is), tt) };
     taken = λ i op piece first is e p l h s. record {
       node = with_chunks i piece.chunks h l.1.good;
       stands = s;
-      notes = (tt, tt);
       sends = by_if (λ ms. EachSent (Label f g) k (to_controller ms)) (first || piece.last) ((two, refl), tt) tt;
     };
-    restored = λ i op chunks e p l h s. record { node = with_chunks i chunks h l.1; stands = s; notes = (tt, tt); sends = ((two, refl), tt) };
+    restored = λ i op chunks e p l h s. record { node = with_chunks i chunks h l.1; stands = s; sends = ((two, refl), tt) };
     stood_by = λ i op chunks e p l h s. record {
       node = same_right i (with_standby f i chunks) h refl refl refl h.sound;
       stands = newest_sound f laws i.table.standby chunks (valid_chunks f laws g chunks l.1.each) s;
-      notes = (tt, tt);
       sends = ((two, refl), tt);
     };
     synced = λ i home op chunks e p l h s. (
         let both = records_sound f laws i.table home chunks (valid_chunks f laws g chunks l.1.each) (record { live = h.sound; standby = s }) in record {
           node = same_right i (with_records f i home chunks) h refl refl refl both.live;
           stands = both.standby;
-          notes = (tt, tt);
           sends = ((two, refl), tt);
         });
     merged = λ i op chunk slots is e p l h s.
-        record { node = same_right i (tally_put i op (Ok slots)).node h refl refl refl h.sound; stands = s; notes = tt; sends = ((two, refl), tt) };
+        record { node = same_right i (tally_put i op (Ok slots)).node h refl refl refl h.sound; stands = s; sends = ((two, refl), tt) };
   }
 
   -- what the step on any message of a run leaves

@@ -3,7 +3,7 @@ use Rattle.proof_outlines.proofs.Words.{◌≡◌, ◌≢◌, ℕ, zero, suc, �
 use Rattle.proof_outlines.proofs.Words.{if◌then◌else◌, ◌&&◌, ◌==◌, filter_map, nat_tests, Decides-eqb, and-false, Semantics, Records, Msg, Note, instance_step}
 use Rattle.proof_outlines.proofs.Words.{less_first, sent_for, inst_step, links_after, at_node, put, behind, Rising, Any, Old, New, as_old, WholeWorld}
 use Rattle.proof_outlines.proofs.Words.{member_step, whole_inst, EveryAll, inst_every_all, MayKeep, keeps_every_all, as_node, dones_in, installs_in}
-use Rattle.proof_outlines.proofs.Words.{done-append, split, Unit, FunctionLaws, InstanceState}
+use Rattle.proof_outlines.proofs.Words.{done-append, split, Unit, FunctionLaws, InstanceState, instance_node}
 use Rattle.instance_worker.specs.Instance.{Step}
 use Rattle.proof_machines.proofs.net.Shares.{keeps}
 use Rattle.proof_outlines.proofs.joined.Words.{unit_fits, ran_in, is_sys, is_sharing, Given, place, target_by, Nodes, Took, Scene, S, A, shown, commands}
@@ -14,6 +14,7 @@ use Rattle.proof_outlines.proofs.joined.LogLemmas.{by_node-append, every_same, o
 use Rattle.proof_outlines.proofs.joined.InstanceNotes.{AreOwn, none_arrived, none_installed, done_own}
 use Rattle.proof_outlines.proofs.joined.InstanceKeeps.{has_records}
 use Rattle.proof_outlines.proofs.joined.InstanceRows.{Leaves}
+use Rattle.proof_outlines.proofs.joined.PlaceNotes.{instance_same}
 
 module _ {F R : Type 0} (f : Semantics R) (laws : FunctionLaws f) (g : Given) (n : ℕ) (x : Scene F f g) (p : ℕ) (j : ℕ) where
   -- the instance's node, and the instance there
@@ -130,6 +131,7 @@ module _ {F R : Type 0} (f : Semantics R) (laws : FunctionLaws f) (g : Given) (n
     next : WholeWorld (S f g) (A f g)
     differs_so : Differs next
     leaves : Leaves f g own_node step
+    its_own : AreOwn own_node step.notes
     shows : ShowsAt f g.site g.packet own_node next step.node
     done : next.done ≡ x.world.done ++ at_node own_node (filter_map ran_in step.notes)
     every : EveryAll (S f g) (A f g) (is_sys f g.site g.packet) next (came_by f g x.log)
@@ -182,13 +184,16 @@ module _ {F R : Type 0} (f : Semantics R) (laws : FunctionLaws f) (g : Given) (n
       shown_is = record {
         switch = subst (λ to. IsSwitch f g x.nodes.switch to) (sym goes.differs_so.target) are.switch;
         controller = controller_after;
-        owners = λ u fits. ap (λ to. to u) goes.differs_so.target ∙ owners_after are step.notes goes.leaves.notes u fits;
+        owners = λ u fits. ap (λ to. to u) goes.differs_so.target ∙ owners_after are step.notes goes.its_own u fits;
         instances = instances_after;
-        every = every_after are step.notes goes.leaves.notes goes.next goes.every;
-        done_is = done_after are step.notes goes.leaves.notes goes.next goes.done;
+        every = every_after are step.notes goes.its_own goes.next goes.every;
+        done_is = done_after are step.notes goes.its_own goes.next goes.done;
         rising = rising_after;
       };
     }
+
+  own_notes : (m : Msg) → Leaves f g own_node (instance_step f own m) → AreOwn own_node (instance_step f own m).notes
+  own_notes m leaves = let same = instance_same f own m in (own.index, ap instance_node (sym same.0) ∙ leaves.node.number, same.1)
 
   -- a step on a message that is shown
   pub shown_leads : (m : Msg) (seen : Any R) → AreShown f g n x → IsTaken f g n x (took m) → shown f g m ≡ Some seen → StepsTo f g.site g.packet (place g)
@@ -200,6 +205,7 @@ module _ {F R : Type 0} (f : Semantics R) (laws : FunctionLaws f) (g : Given) (n
         next = whole_inst (S f g) (A f g) x.world p own_node seen;
         differs_so = differs seen;
         leaves = leaves;
+        its_own = own_notes m leaves;
         shows = steps.shows;
         done = steps.done;
         every = inst_every_all (S f g) (A f g) (is_sys f g.site g.packet) (is_sharing f g.site g.packet) x.world (came_by f g x.log) are.every p own_node seen
@@ -216,6 +222,7 @@ module _ {F R : Type 0} (f : Semantics R) (laws : FunctionLaws f) (g : Given) (n
         next = keeps (S f g) (A f g) x.world own_node t;
         differs_so = kept_differs t;
         leaves = leaves;
+        its_own = own_notes m leaves;
         shows = steps.shows;
         done = steps.done;
         every = keeps_every_all (S f g) (A f g) (is_sys f g.site g.packet) x.world (came_by f g x.log) are.every own_node t may;

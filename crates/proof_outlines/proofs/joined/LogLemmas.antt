@@ -1,7 +1,7 @@
 -- What is read off a log that goes on; and where a unit is doesn't depend on how its packets are told.
-use Rattle.proof_outlines.proofs.Words.{◌≡◌, ℕ, Bool, true, false, List, [], ◌∷◌, ◌++◌, refl, sym, ap, ◌∙◌, subst, append_assoc, append-nil, if◌then◌else◌}
-use Rattle.proof_outlines.proofs.Words.{◌&&◌, ◌||◌, filter, or_assoc, map-append, Note, instance_node, Semantics, Sys, IsSys, Sharing, WholeWorld, Came}
-use Rattle.proof_outlines.proofs.Words.{WhereAll, EveryAll, Done, arrivals_in, installs_in, owner_after_order, owner_after, Unit, split}
+use Rattle.proof_outlines.proofs.Words.{◌≡◌, ℕ, Bool, true, List, [], ◌∷◌, ◌++◌, refl, sym, ap, ◌∙◌, subst, append_assoc, append-nil, if◌then◌else◌, ◌&&◌, ◌||◌}
+use Rattle.proof_outlines.proofs.Words.{filter, or_assoc, map-append, Note, instance_node, Semantics, Sys, IsSys, Sharing, WholeWorld, Came, WhereAll, EveryAll}
+use Rattle.proof_outlines.proofs.Words.{Done, arrivals_in, installs_in, owner_after_order, owner_after, Unit, split}
 pub use Rattle.net_world.proofs.LogLemmas.{arrived-append, done-append}
 use Rattle.proof_outlines.proofs.joined.Words.{unit_fits, Given, loose_by, diverts, diverted_after, is_diverted, diverted_in, target_by, Scene, AreShown}
 use Rattle.proof_outlines.proofs.joined.Words.{by_node, came_by, is_of}

@@ -60,8 +60,8 @@ module _ {F R : Type 0} (f : Semantics R) where
     each-append (IsQuiet i.index) did.notes (next did.node).notes a.1 (subst (λ k. Each (IsQuiet k) (next did.node).notes) a.0 b.1),
   )
 
-  pub instance_quiet : (i : Instance F R) (m : Msg) → Each (IsQuiet i.index) (instance_step f i m).notes
-  instance_quiet i m = (instance_fits f (λ j _ did. Quiet j did) (record {
+  pub instance_same : (i : Instance F R) (m : Msg) → Quiet i (instance_step f i m)
+  instance_same = instance_fits f (λ j _ did. Quiet j did) (record {
     still = λ j m. (refl, tt);
     held = λ j mk cell op. (refl, tt);
     processed = λ j mk cell. processed_quiet j mk cell;
@@ -83,7 +83,10 @@ module _ {F R : Type 0} (f : Semantics R) where
     stood_by = λ j op chunks. (refl, (tt, tt));
     synced = λ j home op chunks. (refl, (tt, tt));
     merged = λ j op chunk slots is. (refl, tt);
-  }) i m).1
+  })
+
+  pub instance_quiet : (i : Instance F R) (m : Msg) → Each (IsQuiet i.index) (instance_step f i m).notes
+  instance_quiet i m = (instance_same i m).1
 
 -- The switch.
 pub switch_unprocessed : (s : SwitchState) (m : Msg) → AreUnprocessed (switch_step s m).notes

@@ -1,9 +1,9 @@
 -- Each row of a share's table leaves a share that is open in a run such a one, and so does what is then served; what both send is such as comes
 -- in a run.
-use Rattle.proof_outlines.proofs.Words.{◌≡◌, ℕ, ◌<◌, Bool, true, false, None, List, [], ◌∷◌, map, length, refl, sym, subst, arith, if◌then◌else◌, ◌==◌, ◌-◌}
-use Rattle.proof_outlines.proofs.Words.{nat_lt, unwrap_or, keys_of, Decides-eqb, Chunk, Semantics, same_unit, FullCell, Msg, instance_node, SharePhase}
-use Rattle.proof_outlines.proofs.Words.{SharePlan, ShareState, ShareRow, Served, home, others, syncs, setting, syncing, on_fenced, on_chunks, on_shared}
-use Rattle.proof_outlines.proofs.Words.{on_synced, member_of, service_if_idle, EachSent, Each, has, split, by_if, Unit, IsDistinct}
+use Rattle.proof_outlines.proofs.Words.{◌≡◌, ℕ, ◌<◌, Bool, true, false, List, [], ◌∷◌, map, length, refl, sym, subst, arith, if◌then◌else◌, ◌==◌, ◌-◌, nat_lt}
+use Rattle.proof_outlines.proofs.Words.{unwrap_or, keys_of, Decides-eqb, Chunk, Semantics, same_unit, FullCell, Msg, instance_node, SharePhase, SharePlan}
+use Rattle.proof_outlines.proofs.Words.{ShareState, ShareRow, Served, home, others, syncs, setting, syncing, on_fenced, on_chunks, on_shared, on_synced}
+use Rattle.proof_outlines.proofs.Words.{member_of, service_if_idle, EachSent, Each, has, split, by_if, Unit, IsDistinct}
 use Rattle.copy_share.specs.Share.{next_phase, row}
 use Rattle.proof_outlines.proofs.joined.Words.{is_whole, entries, is_sharing, Given, Genuine, IsShare, IsOutAt, IsGoodChunk, AreGoodChunks, Label, count}
 
@@ -93,10 +93,6 @@ module _ {R : Type 0} (f : Semantics R) (g : Given) where
     member_in : (cell : FullCell) → has plan.members (member_of plan cell) ≡ true
     member_in cell = (is_sharing f plan.site (λ k. cell.packet)).member_in plan.members 0 (omega (arith, some))
 
-    none_served : (ph : SharePhase) (cells : List FullCell) → IsOutAt f g plan.members ph → Each (Genuine f g) cells
-        → service_if_idle plan ph cells ≡ record { phase = ph; sends = []; stored = None } → ServedIs plan.members cells (service_if_idle plan ph cells)
-    none_served ph cells out genuine none = subst (ServedIs plan.members cells) (sym none) (record { out = out; labels = tt; genuine = genuine })
-
     served_is : (ph : SharePhase) (cells : List FullCell) → IsOutAt f g plan.members ph → Each (Genuine f g) cells
         → ServedIs plan.members cells (service_if_idle plan ph cells)
     served_is SharePhase.Idle (cell ∷ cells) out genuine = record {
@@ -107,12 +103,8 @@ module _ {R : Type 0} (f : Semantics R) (g : Given) where
       );
       genuine = genuine.1;
     }
-    served_is SharePhase.Idle [] out genuine = none_served SharePhase.Idle [] out genuine refl
-    served_is SharePhase.Fencing cells out genuine = none_served SharePhase.Fencing cells out genuine refl
-    served_is SharePhase.Getting cells out genuine = none_served SharePhase.Getting cells out genuine refl
-    served_is (SharePhase.Setting left) cells out genuine = none_served (SharePhase.Setting left) cells out genuine refl
-    served_is (SharePhase.Out member) cells out genuine = none_served (SharePhase.Out member) cells out genuine refl
-    served_is (SharePhase.Syncing left) cells out genuine = none_served (SharePhase.Syncing left) cells out genuine refl
+    served_is SharePhase.Idle [] out genuine = record { out = out; labels = tt; genuine = genuine }
+    served_is ph cells out genuine = record { out = out; labels = tt; genuine = genuine }
 
   -- an open share in another phase
   moved_on : (op : ℕ) (s : ShareState) (ph : SharePhase) → IsShare f g op s → IsOutAt f g s.plan.members ph → IsShare f g op (record s { phase = ph })

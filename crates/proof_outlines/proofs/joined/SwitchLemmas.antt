@@ -4,8 +4,6 @@ use Rattle.proof_outlines.proofs.Words.{arith, if◌then◌else◌, ◌&&◌, �
 use Rattle.proof_outlines.proofs.Words.{less_first, EachSent, sent_for, MoveAsked, Rising, rising_less, Any, WholeWorld, EveryAll, Switch, dones_in}
 use Rattle.proof_outlines.proofs.Words.{installs_in, sent-append, done-append, Unit, split}
 use Rattle.std.proofs.lemmas.List.Elements.{filter_map-append}
-use Rattle.proof_machines.proofs.net.Net as net
-use Rattle.proof_machines.proofs.net.Shares as shares
 use Rattle.proof_outlines.proofs.joined.Words.{unit_fits, want_at, want_of, is_sys, outline_all, routes_same, Given, place, target_by, Nodes, node_of, Label}
 use Rattle.proof_outlines.proofs.joined.Words.{shown, S, A, asked_num, asked_nums, came_by, commands, by_node, IsSwitch, Scene, AreShown, Leads, same_grows}
 use Rattle.proof_outlines.proofs.joined.Words.{instance_stays}

@@ -1,9 +1,9 @@
 -- The outline of an open share: what it does with a message, and then serves, is the row of the abstract network.
-use Rattle.proof_outlines.proofs.Words.{◌≡◌, ℕ, zero, suc, ◌<◌, ◌+◌, Option, Some, None, List, [], ◌∷◌, ◌++◌, map, length, refl, sym, ap, ◌∙◌, subst, arith}
+use Rattle.proof_outlines.proofs.Words.{◌≡◌, ℕ, zero, suc, ◌<◌, ◌+◌, Option, Some, None, List, [], ◌∷◌, ◌++◌, map, length, refl, sym, ap, ◌∙◌, arith}
 use Rattle.proof_outlines.proofs.Words.{if◌then◌else◌, ◌==◌, ◌%◌, not, slice_index, unwrap_or, mod_below, length-map, map-append, nat_tests, Flow, Packet, Site}
 use Rattle.proof_outlines.proofs.Words.{flow_of, Chunk, Chunks, Semantics, spelled, FullCell, Msg, instance_node, SharePhase, SharePlan, ShareState, ShareRow}
 use Rattle.proof_outlines.proofs.Words.{Served, home, others, member_of, service_if_idle, Each, each-append, without_number, Sys, New, ShareMsg, Sharing}
-use Rattle.proof_outlines.proofs.Words.{OpenShare, Told, Is_fenced, Has_chunks, Has_chunk, Is_synced, Has_packet, ShareTurn, share_row, Unit, split, cond, true}
+use Rattle.proof_outlines.proofs.Words.{OpenShare, Told, Is_fenced, Has_chunks, Has_chunk, Is_synced, Has_packet, ShareTurn, share_row, Unit, cond, Bool, true}
 use Rattle.proof_outlines.proofs.Words.{false}
 use Rattle.std.specs.Prelude.{filter}
 use Rattle.copy_share.specs.Share.{next_phase, row, words}
@@ -11,7 +11,7 @@ use Rattle.copy_share.specs.Share as shares
 use Rattle.copy_share.specs.ShareTable as table
 use Rattle.copy_share.specs.ShareTable.{Words}
 use Rattle.proof_machines.proofs.share.TableViews.{map_phase, Follow, fenced_follows, chunks_follows, shared_follows, synced_follows, Serve, service_follows}
-use Rattle.proof_machines.proofs.net.Shares.{syncs, s_goes, s_serves, share_words, share_says}
+use Rattle.proof_machines.proofs.net.Shares.{syncs, s_goes, s_serves, share_words}
 use Rattle.proof_outlines.proofs.outline.Outline.{number, entries, sys}
 use Rattle.proof_outlines.proofs.outline.InstanceOutline.{IsGenuine, filter_map-put}
 use Rattle.proof_outlines.proofs.whole.WholeOutline.{outline_each, outline_all, member_for, sharing}
@@ -166,32 +166,27 @@ module _ {R : Type 0} (f : Semantics R) (at : Site) (packet : ℕ → Packet) (p
     told_same = serves_same s cells cells is some genuine
 
     -- only what comes from the home counts
-    from_home : (r : ShareRow) (did : ShareTurn R) → RowIs cells r did → let b = sender == instance_node (home s.plan) in
-        ShareFollows s.plan cells (if b then r else next_phase s.phase [])
-        (s_serves S A (outline_share s cells) (if b then did else s_goes S A (map_phase instance_node s.phase) (map number cells) []))
-    from_home r did h = split (sender == instance_node (home s.plan)) (λ b. ShareFollows s.plan cells (if b then r else next_phase s.phase [])
-        (s_serves S A (outline_share s cells) (if b then did else s_goes S A (map_phase instance_node s.phase) (map number cells) [])))
-        (λ _. told_same r did h) (λ _. told_same (next_phase s.phase []) (s_goes S A (map_phase instance_node s.phase) (map number cells) [])
-        (record { phase = refl; queue = refl; sends = refl }))
+    from_home : (b : Bool) (r : ShareRow) (did : ShareTurn R) → RowIs cells r did → RowIs cells (if b then r else next_phase s.phase [])
+        (if b then did else s_goes S A (map_phase instance_node s.phase) (map number cells) [])
+    from_home true r did h = h
+    from_home false r did h = record { phase = refl; queue = refl; sends = refl }
 
-    -- chunks that are taken
-    taken : (chunks : List Chunk) (one : ℕ) (ph : SharePhase) → RowIs cells (next_phase ph (shares.syncs s.plan one chunks)) (s_goes S A (map_phase
-        instance_node ph) (map number cells) (share_says (outline_share s cells) (table.Sync (instance_node one) (entries f chunks))))
-    taken chunks one ph = record { phase = refl; queue = refl; sends = syncs_same s.plan one chunks }
+    -- chunks that are taken, as what they spell
+    taken : (chunks : List Chunk) (cs : Chunks R) → entries f chunks ≡ cs → (one : ℕ) (ph : SharePhase)
+        → RowIs cells ((words s.plan).next ph (table.Sync one chunks))
+        ((seen_words s cells cells is some genuine).next (map_phase instance_node ph) (table.Sync (instance_node one) cs))
+    taken chunks cs spelled one ph = record { phase = refl; queue = refl; sends = rw (← spelled) (syncs_same s.plan one chunks) }
 
     pub fenced_rows : (op : ℕ) → ShareRows (Msg.Fenced op) Is_fenced
-    fenced_rows op = from_home _ _ (fenced_follows its s.phase)
+    fenced_rows op = told_same _ _ (from_home (sender == instance_node (home s.plan)) _ _ (fenced_follows its s.phase))
 
     pub chunks_rows : (op : ℕ) (chunks : List Chunk) → ShareRows (Msg.Chunks op chunks) (Has_chunks (entries f chunks))
-    chunks_rows op chunks = from_home _ _ (chunks_follows its chunks (entries f chunks) (taken chunks) s.phase)
+    chunks_rows op chunks = told_same _ _ (from_home (sender == instance_node (home s.plan)) _ _
+        (chunks_follows its chunks (entries f chunks) (taken chunks (entries f chunks) refl) s.phase))
 
     pub shared_rows : (op : ℕ) (chunk : Chunk) (entry : Unit × R) → spelled f chunk ≡ Some entry → ShareRows (Msg.Shared op chunk) (Has_chunk entry)
-    shared_rows op chunk entry spells =
-        let one : entries f (chunk ∷ []) ≡ entry ∷ [] = rw spells refl in
-        subst (λ cs. ShareFollows s.plan cells (row s sender (Msg.Shared op chunk)) (s_serves S A (outline_share s cells)
-        (table.on_shared (share_words S A (outline_share s cells) (map number cells)) (map_phase instance_node s.phase) (λ m. sender == m) cs))) one
-        (told_same _ _ (shared_follows its (chunk ∷ []) (entries f (chunk ∷ [])) (taken (chunk ∷ [])) (λ m. sender == instance_node m)
-        (λ m. sender == m) s.phase (λ _ _. refl)))
+    shared_rows op chunk entry spells = told_same _ _ (shared_follows its (chunk ∷ []) (entry ∷ []) (taken (chunk ∷ []) (entry ∷ []) (rw spells refl))
+        (λ m. sender == instance_node m) (λ m. sender == m) s.phase (λ _ _. refl))
 
     pub synced_rows : (op : ℕ) → ShareRows (Msg.Synced op) Is_synced
     synced_rows op = told_same _ _ (synced_follows its s.phase)
