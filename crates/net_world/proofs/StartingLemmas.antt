@@ -13,7 +13,4 @@ length-first_instances F R alloc c (suc i) = length-append (first_instances {F =
 
 pub few_nodes : {F R : Type 0} (alloc : Global) (c : Config) (nodes : List (Node F R)) → IsConfig c → nodes ≡ first_nodes alloc c
     → (0 < length nodes) × (length nodes < 256)
-few_nodes {F = F} {R = R} alloc c nodes is same =
-    let count = length-first_instances F R alloc c (length c.names) in
-    let few = is.few in
-    rw same ((omega arith), (omega (arith, count, few)))
+few_nodes {F = F} {R = R} alloc c nodes is same = rw same ((omega arith), (omega (arith, length-first_instances F R alloc c (length c.names), is.few)))

@@ -34,11 +34,8 @@ alone false = refl
 local_takes : (g : Filter) (flow : Flow) → gives_more_than_local (fields_of g) ≡ false → takes g (OfHost flow.local) ≡ matches g flow
 local_takes g flow h =
     let parts = none_of_four (is_some g.proto) (is_some g.lport) (is_some (fields_of g).remote) (is_some g.rport) h in
-    let proto = none_is g.proto parts.0 in
-    let lport = none_is g.lport parts.1 in
     let remote = none_is g.remote (sym (some_same prefix_numbers g.remote) ∙ parts.2) in
-    let rport = none_is g.rport parts.3 in
-    rw (proto, lport, remote, rport) (alone (agrees holds g.local flow.local))
+    rw (none_is g.proto parts.0, none_is g.lport parts.1, remote, none_is g.rport parts.3) (alone (agrees holds g.local flow.local))
 
 pub whole_takes : (kind : Kind) (g : Filter) → splits kind (fields_of g) ≡ false → TakesWhole kind g
 whole_takes Conntrack g h flow = refl

@@ -42,8 +42,7 @@ command_times op least (c ∷ cs) rising = elim (c.op == op) as (λ b. (c.op == 
           rw turned (omega (arith, none))
       | false ↦ λ is.
           let turned : (op == c.op) ≡ false = grind (arith, nat_tests) in
-          let rest = command_times op (suc c.op) cs rising.1 in
-          rw turned (omega (arith, rest))
+          rw turned (omega (arith, command_times op (suc c.op) cs rising.1))
     ] refl
 
 -- In the world of a complete run.

@@ -29,11 +29,9 @@ module _ {F R : Type 0} (setting : Setting F R) (cs : List Choice) (run_is : IsC
   turn : length (arrivals_in w.log) + length (packets left) ≡ length (packets items)
   turn =
       let h = runs_joined setting cs run_is in
-      let both = length-append (arrivals_in w.log) (numbers left) in
-      let same = ap length h.in_turn in
       let some = length-map (packets left) (λ p. p.number) in
       let all = length-map (packets items) (λ p. p.number) in
-      omega (arith, both, same, some, all)
+      omega (arith, length-append (arrivals_in w.log) (numbers left), ap length h.in_turn, some, all)
 
   -- what waits in the input hasn't begun
   waits_on : (ms behind : List Msg) (command : Command) → left ≡ ms ++ Msg.InCommand command ∷ behind → is_begun command.op w.log ≡ false
@@ -58,8 +56,7 @@ module _ {F R : Type 0} (setting : Setting F R) (cs : List Choice) (run_is : IsC
       let all : length (packets items) ≡ length (packets front) + (length (packets ends.0) + length (packets left)) =
       ap (λ xs. length (packets xs)) (whole ∙ ap (λ xs. front ++ xs) ends.1) ∙ counts front (ends.0 ++ left)
       ∙ ap (λ k. length (packets front) + k) (counts ends.0 left) in
-      let own = turn in
-      omega (arith, all, own))
+      omega (arith, all, turn))
     where
       counted : Counted items w
       counted = (run_settles setting cs run_is).counted

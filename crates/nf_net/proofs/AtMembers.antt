@@ -58,18 +58,15 @@ module _ {F R : Type 0} (setting : Setting F R) (n : ℕ) (count_is : n ≡ leng
         let split : diverted_in g mine u [] w.log
         ≡ diverted_in g mine u [] before ++ diverted_in g mine u (installs_in before) (Note.Arrived number ∷ rest) =
         ap (diverted_in g mine u []) whole ∙ diverted_in-append g mine u [] before (Note.Arrived number ∷ rest) in
-        let mine_is = own in
-        let diverted_is = diverted in
         let head : diverted_in g mine u (installs_in before) (Note.Arrived number ∷ rest) ≡ number ∷ diverted_in g mine u (installs_in before) rest =
-        rw (mine_is, diverted_is) refl in
-        let same = same_times number (diverted_in g mine u [] w.log) in
+        rw (own, diverted) refl in
         let all = ap (times number) (split ∙ ap (λ v. diverted_in g mine u [] before ++ v) head) in
         let two = times-append number (diverted_in g mine u [] before) (number ∷ diverted_in g mine u (installs_in before) rest) in
         let self : (number == number) ≡ true = grind (arith, nat_tests) in
         let one : times number (number ∷ diverted_in g mine u (installs_in before) rest)
         ≡ 1 + times number (diverted_in g mine u (installs_in before) rest) =
         rw self refl in
-        omega (arith, same, all, two, one)
+        omega (arith, same_times number (diverted_in g mine u [] w.log), all, two, one)
 
     -- and was done
     abbrev front : List Note
@@ -83,9 +80,8 @@ module _ {F R : Type 0} (setting : Setting F R) (n : ℕ) (count_is : n ≡ leng
 
     done_there : ran_of (S f g) (A f g) u j.world.done ≡ ran front ++ (number, instance_node i) ∷ ran after
     done_there =
-        let mine_is = own in
         let here : ran_of (S f g) (A f g) u (by_node f g (dones_in (Note.Processed number i output ∷ after))) ≡ (number, instance_node i) ∷ ran after =
-        rw mine_is refl in
+        rw own refl in
         ap (ran_of (S f g) (A f g) u)
         (j.shown_is.done_is ∙ ap (λ log. by_node f g (dones_in log)) log_is ∙ ap (by_node f g) (done-append front (Note.Processed number i output ∷ after))
         ∙ by_node-append f g (dones_in front) (dones_in (Note.Processed number i output ∷ after)))

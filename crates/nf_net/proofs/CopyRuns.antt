@@ -176,9 +176,8 @@ module _ {F R : Type 0} (setting : Setting F R) where
             let own : (op == op) ≡ true = grind (arith, nat_tests) in
             let one : once false op m ≡ 1 = rw own refl in
             let judging = run_judging setting cs run_is in
-            let most = judging.once op false in
             let few = used_few (finite.get judging.controller.operations op) (is_begun op (w cs r z p h).log) false in
-            none_exported op (w cs r z p h).log (omega (arith, weight, none, one, most, few))
+            none_exported op (w cs r z p h).log (omega (arith, weight, none, one, judging.once op false, few))
 
         there : slice_get (w cs r z p h).nodes (instance_node y) ≡ Some (Instance i)
         there =

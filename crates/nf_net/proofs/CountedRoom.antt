@@ -19,9 +19,6 @@ module _ {F R : Type 0} (setting : Setting F R) where
   pub room : (w : Network (Node F R) Msg Note) → InRun setting w → (u : Unit) → length (processed_of f c items u w.log) ≤ most_counted
   room w h u =
       let own = length-map (done_where (is_of f c items u) (dones_in w.log)) (λ d. d.number) in
-      let some = few_of (is_of f c items u) (dones_in w.log) in
-      let came = few_done setting (length c.names + 2) w h.runs.joined in
       let turn = front_length (arrivals_in w.log) (numbers items) (record { rest = _; whole = h.in_turn }) in
       let all = length-map (packets items) (λ p. p.number) in
-      let few = is.few in
-      omega (arith, own, some, came, turn, all, few)
+      omega (arith, own, few_of (is_of f c items u) (dones_in w.log), few_done setting (length c.names + 2) w h.runs.joined, turn, all, is.few)

@@ -62,9 +62,7 @@ module _ {F R : Type 0} (setting : Setting F R) where
           by_asking zero e off = e
           by_asking (suc a) e off =
               let there = asked_there f g p k m it.label (omega (arith, e)) in
-              let p0 = there.0 in
-              let k0 = there.1 in
-              let never : true ≡ false = rw (p0, k0) at off in
+              let never : true ≡ false = rw (there.0, there.1) at off in
               cc
 
       -- the balance, by what the (node_step f) changes
@@ -73,10 +71,8 @@ module _ {F R : Type 0} (setting : Setting F R) where
           → s.waiting + answered_in (commands items) v.log + length (commands (queue_at v (at 0 0))) ≡ length (commands items) + total answering v
       balance_after s more counts answered sent =
           let log = ap (answered_in (commands items)) (taken_outcome (node_step f) n w k p (node_of j.nodes k) m rest takes).log in
-          let weight = total_after (node_step f) n w k p (node_of j.nodes k) m rest takes answering in
-          let less = input_counts input_goes in
           let was = h.balance in
-          omega (arith, log, weight, less, was, counts, answered, sent)
+          omega (arith, log, total_after (node_step f) n w k p (node_of j.nodes k) m rest takes answering, input_counts input_goes, was, counts, answered, sent)
         where
           counted : (x : Msg) (xs : List Msg) → length (commands (x ∷ xs)) ≡ asking x + length (commands xs)
           counted (Msg.InCommand d) xs = omega arith
@@ -108,8 +104,7 @@ module _ {F R : Type 0} (setting : Setting F R) where
           by_goes (Loses e r) = split (nat_lt (length behind) (length (queue_at w (at 0 0)))) (λ _. AllAnswered (commands front) w.log)
               (λ on.
               let more = (Decides-ltb (length behind) (length (queue_at w (at 0 0)))).0 on in
-              let one = ap length e in
-              let ends = same_ends h.took (queue_at w (at 0 0)) front (Msg.InSettle ∷ behind) (sym h.whole ∙ whole) (omega (arith, more, one, short)) in
+              let ends = same_ends h.took (queue_at w (at 0 0)) front (Msg.InSettle ∷ behind) (sym h.whole ∙ whole) (omega (arith, more, ap length e, short)) in
               subst (λ xs. AllAnswered (commands xs) w.log) ends.0 (none_waits g w b items h (taken_now (sym e ∙ ends.1) r.1)))
               (λ off. (let few : length (queue_at w (at 0 0)) ≤ length behind = grind (arith, nat_tests, off) in h.settled front behind whole few))
 
@@ -125,9 +120,8 @@ module _ {F R : Type 0} (setting : Setting F R) where
         let took = took_after 0 p m rest it goes in
         let sent = none_sent f g n 0 (switch_step s m).sends (λ never. cc) it.labels in
         let weight = total_after (node_step f) n w 0 p (node_of j.nodes 0) m rest it.takes answering in
-        let most = few g w b items h in
         let was = h.balance in
-        let counts = switch_counts f g s m (asked_ready goes) (let e = ap (λ x. x.waiting) same in omega (arith, e, sent, weight, most, was)) in
+        let counts = switch_counts f g s m (asked_ready goes) (let e = ap (λ x. x.waiting) same in omega (arith, e, sent, weight, few g w b items h, was)) in
         record {
           switch = (switch_step s m).node;
           switch_is = (taken_outcome (node_step f) n w 0 p (node_of j.nodes 0) m rest it.takes).own;
@@ -151,14 +145,12 @@ module _ {F R : Type 0} (setting : Setting F R) where
         let left = taken_outcome (node_step f) n w 1 p (node_of j.nodes 1) m rest it.takes in
         let labelled_is = it.label in
         let acts = controller_acts g n reach t (known f g t j.world.ops j.world.shares j.world.next j.shown_is.controller) f p m labelled_is in
-        let none = no_answer_to f g p 1 m (omega arith) labelled_is in
-        let asked = not_asked goes in
         record {
           switch = h.switch;
           switch_is = λ d. left.others 0 d (omega arith) ∙ h.switch_is d;
           took = took.0;
           whole = took.1;
-          balance = by_says acts.says (omega (arith, none, asked));
+          balance = by_says acts.says (omega (arith, no_answer_to f g p 1 m (omega arith) labelled_is, not_asked goes));
           settled = settled_after 1 p m rest it (switch_same it.takes.some) goes;
         }
       where
@@ -183,9 +175,7 @@ module _ {F R : Type 0} (setting : Setting F R) where
             let one : length (answers_of op (Note.Answered op a ∷ [])) ≡ 1 = rw self refl in
             let both = ap (λ l. length (answers_of op l)) log ∙ ap length (answers_of-append op w.log (Note.Answered op a ∷ []))
             ∙ length-append (answers_of op w.log) (answers_of op (Note.Answered op a ∷ [])) in
-            let some = some_answers op w.log is in
-            let once = (after.is.answered op).answered_once in
-            absurd (omega (arith, one, both, some, once))
+            absurd (omega (arith, one, both, some_answers op w.log is, (after.is.answered op).answered_once))
 
         by_says : SaysSo g n reach j.nodes.controller (controller_step j.nodes.controller p m) → h.switch.waiting + answering m ≡ h.switch.waiting + asking m
             → h.switch.waiting + answered_in (commands items) (world_next (node_step f) w (at 1 p)).log
@@ -203,7 +193,6 @@ module _ {F R : Type 0} (setting : Setting F R) where
         let left = taken_outcome (node_step f) n w k p (node_of j.nodes k) m rest it.takes in
         let other : k ≢ 1 = (λ never. absurd (omega (arith, never))) in
         let sent = none_sent f g n k (node_step f (node_of j.nodes k) p m).sends other it.labels in
-        let none = no_answer_to f g p k m (omega arith) it.label in
         let asked = not_asked goes in
         let stays = answered_in_same (commands items) w.log (node_step f (node_of j.nodes k) p m).notes
         (λ op. other_not_answered op (node_step f (node_of j.nodes k) p m).notes (instance_says f g k (j.nodes.instance k) m).notes_are) in
@@ -212,7 +201,7 @@ module _ {F R : Type 0} (setting : Setting F R) where
           switch_is = λ d. left.others 0 d (λ never. cc) ∙ h.switch_is d;
           took = took.0;
           whole = took.1;
-          balance = balance_after k p m rest it h.switch 0 (omega (arith, none, asked)) (omega (arith, stays)) sent;
+          balance = balance_after k p m rest it h.switch 0 (omega (arith, no_answer_to f g p k m (omega arith) it.label, asked)) (omega (arith, stays)) sent;
           settled = settled_after k p m rest it (switch_same it.takes.some) goes;
         }
       where

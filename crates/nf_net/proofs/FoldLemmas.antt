@@ -8,6 +8,4 @@ module _ {F R : Type 0} (setting : Setting F R) where
 
   pub fold_is : (kept : Option R) (ps : List ℕ) → fold f c items kept ps ≡ readings.fold (S f (given setting)).F kept ps
   fold_is kept [] = refl
-  fold_is kept (p ∷ ps) =
-      let transport = (all_fit setting p).transport in
-      rw transport (fold_is (Some (f.stepped c.site kept (packet_numbered items p)).kept) ps)
+  fold_is kept (p ∷ ps) = rw ((all_fit setting p).transport) (fold_is (Some (f.stepped c.site kept (packet_numbered items p)).kept) ps)

@@ -88,11 +88,9 @@ module _ {F R : Type 0} (setting : Setting F R) where
       → packets_in f (fold f c items kept ps) ≡ packets_in f kept + length ps
   fold_counts kept [] room = omega arith
   fold_counts kept (p ∷ ps) room =
-      let transport = (all_fit setting p).transport in
       let next : Option R = Some (f.stepped c.site kept (packet_numbered items p)).kept in
       let one : packets_in f next ≡ packets_in f kept + 1 = laws.counts c.site kept (packet_numbered items p) ∙ min-eq_left (omega (arith, room)) in
-      let rest = fold_counts next ps (omega (arith, room, one)) in
-      rw transport (omega (arith, rest, one))
+      rw ((all_fit setting p).transport) (omega (arith, fold_counts next ps (omega (arith, room, one)), one))
 
   counts : (ps : List ℕ) → length ps ≤ most_counted → packets_in f (kept_of ps) ≡ length ps
   counts ps room = let all = fold_counts None ps (omega (arith, room)) in omega (arith, all)

@@ -118,8 +118,7 @@ module _ (Part : ℕ → Piece → Type 0) (Verdict : ℕ → Answer → Type 0)
             omega (arith, few, sent, before))
             (λ off.
             let apart : (mv.plan.op == k) ≡ false = grind (arith, nat_tests, off, same) in
-            let none = (row_spends n first mv.plan (stored_of c.store mv.plan.op) mv.phase port m).other k apart in
-            omega (arith, none))
+            omega (arith, (row_spends n first mv.plan (stored_of c.store mv.plan.op) mv.phase port m).other k apart))
 
         turn_by : (a : Option Answer) → answer_of r.next.phase ≡ a → StepIs (after_turn c op (turn_of_move mv c.store r) a)
         turn_by None e = record {
@@ -152,7 +151,6 @@ module _ (Part : ℕ → Piece → Type 0) (Verdict : ℕ → Answer → Type 0)
               }))) (λ off never. cc) is;
           own = (refl, tt);
           once = λ k first.
-              let both = sent_weight-append (once first k) n 1 r.next.sends ((0, Msg.Answered op) ∷ []) in
               let none = no_one n 1 first 0 (Msg.Answered op) (λ y. refl) k in
               let sent = spends k first 1 (spent_few r.next.phase first) in
               let move_at_start = began_same k log (Note.Answered op a ∷ []) refl in
@@ -164,7 +162,7 @@ module _ (Part : ℕ → Piece → Type 0) (Verdict : ℕ → Answer → Type 0)
               (if b then 1 else used (finite.get c.operations k) (is_begun k log) first))
               (λ on. (let has : is_begun k log ≡ true = ap (λ j. is_begun j log) ((Decides-eqb k op).0 on) ∙ busy op (Move mv) there in rw has refl))
               (λ off. refl) in
-              omega (arith, both, none, sent, here);
+              omega (arith, sent_weight-append (once first k) n 1 r.next.sends ((0, Msg.Answered op) ∷ []), none, sent, here);
         }
           where
             gone : (k : ℕ) → finite.get (finite.remove (finite.insert c.operations op (Move x)) op) k ≡ cond (k == op) None (finite.get c.operations k)
@@ -208,12 +206,11 @@ module _ (Part : ℕ → Piece → Type 0) (Verdict : ℕ → Answer → Type 0)
             → sent_weight (once first k) n 1 sends + used (finite.get c.operations k) (is_begun k log) first
             ≤ used (finite.get (finite.insert c.operations op o) k) (is_begun k (log ++ Note.Begun op ∷ [])) first
         opens_once o sends none_sent k first =
-            let sent = none_sent first k in
             let here : used (finite.get c.operations k) (is_begun k log) first
             ≤ used (finite.get (finite.insert c.operations op o) k) (is_begun k (log ++ Note.Begun op ∷ [])) first =
             subst (λ q. used (finite.get c.operations k) (is_begun k log) first ≤ used q (is_begun k (log ++ Note.Begun op ∷ [])) first)
             (sym (got_insert c.operations op k o)) (opened_more o k first (k == op) refl) in
-            omega (arith, sent, here)
+            omega (arith, none_sent first k, here)
 
         begun_is : {what : Order} (did : Step) → OpensBy c op what did → StepIs did
         begun_is did (Opens_move {filter = filter} {keep = keep} from to e at) =
@@ -235,8 +232,6 @@ module _ (Part : ℕ → Piece → Type 0) (Verdict : ℕ → Answer → Type 0)
               found = λ k a is. cc;
               own = (refl, tt);
               once = λ k first.
-                  let most = at_most n 1 first (instance_node from) (copy.asks op filter) k in
-                  let few = few_counts (copy.asks op filter) first k in
                   let here : once first k (copy.asks op filter) + used (finite.get c.operations k) (is_begun k log) first
                   ≤ used (finite.get (finite.insert c.operations op (Copy (copy.copy_at_start plan))) k) (is_begun k (log ++ Note.Begun op ∷ [])) first =
                   subst (λ o. once first k (copy.asks op filter) + used (finite.get c.operations k) (is_begun k log) first
@@ -248,13 +243,12 @@ module _ (Part : ℕ → Piece → Type 0) (Verdict : ℕ → Answer → Type 0)
                   let zero : used (finite.get c.operations k) (is_begun k log) first ≡ 0 =
                   ap (λ j. used (finite.get c.operations j) (is_begun j log) first) it ∙ ap (λ o. used o (is_begun op log) first) none
                   ∙ ap (λ b. if b then 1 else 0) new in
-                  omega (arith, zero, few))
+                  omega (arith, zero, few_counts (copy.asks op filter) first k))
                   (λ off.
                   let turned : (op == k) ≡ false = grind (arith, nat_tests, off) in
                   let same : is_begun k (log ++ Note.Begun op ∷ []) ≡ is_begun k log = began_same k log (Note.Begun op ∷ []) (rw turned refl) in
-                  let apart = asks_apart filter first k turned in
-                  rw same (omega (arith, apart)))) in
-                  omega (arith, most, here);
+                  rw same (omega (arith, asks_apart filter first k turned)))) in
+                  omega (arith, at_most n 1 first (instance_node from) (copy.asks op filter) k, here);
             }
           where
             asks_said : (o : Option Filter) → Said Part Verdict Goes 1 (instance_node from) (copy.asks op o)

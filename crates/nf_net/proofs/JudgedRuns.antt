@@ -56,8 +56,7 @@ module _ {F R : Type 0} (setting : Setting F R) where
     found = λ op a e. cc;
     once = λ op first.
         let none = opening_weight Note (first_nodes {F = F} {R = R} alloc c) items (once first op) in
-        let zero = items_weigh first op items only in
-        by_first first op (omega (arith, none, zero));
+        by_first first op (omega (arith, none, items_weigh first op items only));
     fixed = λ i small s e.
         let own : first_instance alloc c i ≡ s = same_instance (first_instance alloc c i) s
         (sym (instance_found setting (length c.names) i (Instance s) small) ∙ e (Instance s)) in

@@ -33,8 +33,7 @@ module _ (n : ℕ) (log : List Note) (x : OpenAt) (op_is : x.share.plan.op ≡ x
       ≡ used (cond (k == x.num) (Some (next_share x r)) (finite.get x.node.operations k)) (is_begun k log) first =
       ap (λ o. used o (is_begun k (log ++ did.notes)) first) (l.operations k)
       ∙ ap (λ b. used (cond (k == x.num) (Some (next_share x r)) (finite.get x.node.operations k)) b first) begun in
-      let here = by_number first k (k == x.num) refl in
-      omega (arith, after, here)
+      omega (arith, after, by_number first k (k == x.num) refl)
     where
       by_number : (first : Bool) (k : ℕ) (b : Bool) → (k == x.num) ≡ b
           → sent_weight (once first k) n 1 did.sends + used (finite.get x.node.operations k) (is_begun k log) first

@@ -135,11 +135,10 @@ module _ {F R : Type 0} (setting : Setting F R) where
 
     taken_now : (op : ℕ) → times_taken f op later (start setting) ≡ times_taken f op cs (start setting) + counts m true op
     taken_now op =
-        let both = times_taken-append f op cs (at k p ∷ []) (start setting) in
         let here : (if is_first_piece op (queue_at (run step cs (start setting)) (at k p)) then 1 else 0) ≡ counts m true op =
         ap (λ u. if is_first_piece op (queue_at u (at k p)) then 1 else 0) (sym reached) ∙ ap (λ ms. if is_first_piece op ms then 1 else 0) takes.waits
         ∙ first_counts op m rest in
-        omega (arith, both, here)
+        omega (arith, times_taken-append f op cs (at k p ∷ []) (start setting), here)
 
     happens : (op : ℕ) (first : Bool) → times_given op did.notes ≡ counts m false op
         → happened first later log op ≡ happened first cs w.log op + counts m first op
@@ -155,11 +154,7 @@ module _ {F R : Type 0} (setting : Setting F R) where
           (links_kept (Part w.log) (Part log) (Verdict cs) (Verdict later) Goes part judged w h.says) l.says;
       found = λ op a e. by_one op a (one_of (answers_of op w.log) (answers_of op did.notes) a (sym (answers_of-append op w.log did.notes) ∙ e));
       once = λ op first.
-          let weight = total_after step nodes w k p node m rest takes (once first op) in
-          let more = happens op first (l.given op) in
-          let was = h.once op first in
-          let now = l.spends op first in
-          omega (arith, weight, more, was, now);
+          omega (arith, total_after step nodes w k p node m rest takes (once first op), happens op first (l.given op), h.once op first, l.spends op first);
       fixed = l.fixed;
     })
       where

@@ -86,7 +86,6 @@ module _ (Part : ℕ → Piece → Type 0) (Verdict : ℕ → Answer → Type 0)
         found = λ k a is. cc;
         own = tt;
         once = λ k first.
-            let sent = no_one n 1 first (instance_node y.plan.to) m (quiet first) k in
             let begun = began_same k log [] refl in
             let here : used (finite.get (hands c op y m).node.operations k) (is_begun k (log ++ [])) first
             ≡ used (finite.get c.operations k) (is_begun k log) first =
@@ -96,7 +95,7 @@ module _ (Part : ℕ → Piece → Type 0) (Verdict : ℕ → Answer → Type 0)
             (finite.get c.operations k) (is_begun k log) first)
             (λ on. sym (ap (λ j. used (finite.get c.operations j) (is_begun k log) first) ((Decides-eqb k op).0 on)
             ∙ ap (λ o. used o (is_begun k log) first) there)) (λ off. refl) in
-            omega (arith, sent, here);
+            omega (arith, no_one n 1 first (instance_node y.plan.to) m (quiet first) k, here);
       }
 
       ends_is : StepIs (ends c op)

@@ -193,13 +193,11 @@ module _ {F R : Type 0} (setting : Setting F R) (cs : List Choice) (run_is : IsR
           → exported_for op w.log ≡ None
       none_before op filter takes labels =
           let m = Msg.Stream op filter in
-          let weight = total_after (node_step f) n w k p (Instance i) m rest takes (once false op) in
           let none = none_once f g op false n k (node_step f (Instance i) p m).sends (λ never. absurd (omega (arith, never))) labels in
           let own : (op == op) ≡ true = grind (arith, nat_tests) in
           let one : once false op m ≡ 1 = rw own refl in
-          let most = h.once op false in
           let few = used_few (finite.get h.controller.operations op) (is_begun op w.log) false in
-          none_exported op w.log (omega (arith, weight, none, one, most, few))
+          none_exported op w.log (omega (arith, total_after (node_step f) n w k p (Instance i) m rest takes (once false op), none, one, h.once op false, few))
 
       -- the verdict on a piece that is put first
       judged_first : (op : ℕ) (piece : Piece) (takes : Takes (node_step f) n w k p (Instance i) (Msg.Put op piece true) rest) → Part w.log op piece → Goes op k

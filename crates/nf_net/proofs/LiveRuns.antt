@@ -172,8 +172,7 @@ module _ {F R : Type 0} (setting : Setting F R) where
         -- a copy's chunks are of a copy's number
         copied : (op : ℕ) (chunks : List Chunk) → m ≡ Msg.Standby op chunks → is_first_of c items (order_numbered items op) y ≡ false
         copied op chunks is_so =
-            let some = takes.receiver in
-            let open_so = token_open f g (length c.names + 2) w r.joined (suc (suc y)) p op chunks rest (omega (arith, some))
+            let open_so = token_open f g (length c.names + 2) w r.joined (suc (suc y)) p op chunks rest (omega (arith, takes.receiver))
             (subst (λ x. Takes (node_step f) (length c.names + 2) w (suc (suc y)) p
             (node_of r.joined.nodes (suc (suc y))) x rest) is_so takes) r.beside.tokens in
             let its = r.joined.shown_is.controller.copies op open_so.copy open_so.there in
@@ -242,8 +241,7 @@ module _ {F R : Type 0} (setting : Setting F R) where
       none_here : (us : List Unit) → ((u : Unit) → is_among us u ≡ false) → length us ≡ 0
       none_here [] all = refl
       none_here (u ∷ us) all =
-          let same_is = same_unit_equiv.refl u in
-          let self : is_among (u ∷ us) u ≡ true = rw same_is refl in
+          let self : is_among (u ∷ us) u ≡ true = rw (same_unit_equiv.refl u) refl in
           let never : true ≡ false = sym self ∙ all u in
           cc
 

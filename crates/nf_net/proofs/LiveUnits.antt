@@ -81,10 +81,9 @@ module _ {R : Type 0} where
   as_many (u ∷ us) m h same =
       let self : same_unit u u ≡ true = same_unit_equiv.refl u in
       let on : finite.contains_key m u ≡ true = sym (same u) ∙ rw self refl in
-      let some = has_one m u on in
       let less : finite.len (finite.remove m u) ≡ finite.len m - 1 = len-remove units_total m u ∙ ap (λ t. cond t (finite.len m - 1) (finite.len m)) on in
       let rest = as_many us (finite.remove m u) h.1 (λ q. others q) in
-      omega (arith, some, less, rest)
+      omega (arith, has_one m u on, less, rest)
     where
       others : (q : Unit) → is_among us q ≡ finite.contains_key (finite.remove m u) q
       others q = split (same_unit q u) (λ t. is_among us q ≡ is_some (cond t None (finite.get m q)))

@@ -110,10 +110,7 @@ module _ (g : Given) (u : Unit) where
   pub still_shared : (i op : ℕ) (front back : List ℕ) (ms : List (List ℕ)) → members_by i front ≡ None → SharesIt (g.orders op) (owner_by i front) ms
       → members_by i (front ++ op ∷ back) ≡ Some ms
   still_shared i op front back ms none its =
-      let what = its.order_is in
-      let on = its.takes_it in
-      let home = its.home in
-      let here : sharing (g.orders op) (owner_by i front) ≡ Some ms = rw (what, on, home) refl in
+      let here : sharing (g.orders op) (owner_by i front) ≡ Some ms = rw (its.order_is, its.takes_it, its.home) refl in
       members-append i front (op ∷ back) ∙ ap (λ o. option_or o (members_by (owner_by i front) (op ∷ back))) none
       ∙ ap (λ o. option_or o (members_by (owner_after_order g.names g.orders u (g.orders op) (owner_by i front)) back)) here
 
@@ -152,10 +149,7 @@ installed_in (n ∷ log) front op back e = behind_note n log front op (λ xs. re
 
 pub times_there : (op : ℕ) (first rest : List Note)
     → times_installed op (first ++ Note.Installed op ∷ rest) ≡ suc (times_installed op first + times_installed op rest)
-times_there op first rest =
-    let both = times_installed-append op first (Note.Installed op ∷ rest) in
-    let one = counted_now op (installs_in rest) in
-    omega (arith, both, one)
+times_there op first rest = omega (arith, times_installed-append op first (Note.Installed op ∷ rest), counted_now op (installs_in rest))
 
 -- The instances with some names.
 module _ (names : List (List ℕ)) where

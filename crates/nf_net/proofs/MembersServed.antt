@@ -92,15 +92,13 @@ module _ {R : Type 0} (S : Sys R) (A : Sharing S) (laws : IsSys S) (u : Unit) wh
         not_before : times p (packets parted.before) ≡ 0
         not_before =
             let all : times p (before ++ k.diverted) ≡ times p k.all = same_of b (before ++ k.diverted) k.all o p in
-            let two = times-append p before k.diverted in
             let first : times p before ≡ times p (packets parted.before) + times p parted.early_waits = ap (times p) (h.before_is ∙ parted.early_is)
             ∙ times-append p (packets parted.before) parted.early_waits in
-            omega (arith, all, two, first, once, came)
+            omega (arith, all, times-append p before k.diverted, first, once, came)
 
         by_place : Stands parted.before (served own_share parted.since) (record { before = front; item = (p, y); after = back }) → y ≡ A.member x.members p
         by_place (In_first cs here) =
-            let some = some_times front cs p y in
-            let none = not_before in let same = ap (λ ds. times p (packets ds)) here in absurd (omega (arith, some, none, same))
+            let none = not_before in let same = ap (λ ds. times p (packets ds)) here in absurd (omega (arith, some_times front cs p y, none, same))
         by_place (In_second cs from at) = served_at own_share parted.since cs back p y at
 
     pub done_at : WhereAll S A laws u w k → DoneAt

@@ -35,8 +35,7 @@ no_longer (x ∷ xs) ys h =
     let first : ◌≡◌ {A = ℕ} (if x == x then 1 else 0) 1 = rw own refl in
     let some : 1 ≤ times x ys = omega (arith, here, first) in
     let rest = no_longer xs (without x ys) (λ p. let all = h p in let less = without_times x p ys some in omega (arith, all, less)) in
-    let long = without_long x ys some in
-    omega (arith, rest, long)
+    omega (arith, rest, without_long x ys some)
 
 pub done_times : (mine : ℕ → Bool) (p : ℕ) → mine p ≡ true → (ds : List Done)
     → times p (map (λ d. d.number) (done_where mine ds)) ≡ times p (map (λ d. d.number) ds)

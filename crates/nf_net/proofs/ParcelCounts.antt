@@ -25,12 +25,11 @@ module _ (p one : ℕ) (of : ℕ → List ℕ) where
   but_none_of zero low = refl
   but_none_of (suc i) low =
       let off : (i == one) ≡ false = grind (arith, nat_tests, low) in
-      let rest = but_none_of i (omega (arith, low)) in
       let left : ◌≡◌ {A = List ℕ} (if i == one then [] else of i) (of i) = rw off refl in
       let both = times-append p (all_but one of i) (if i == one then [] else of i) in
       let same = ap (times p) left in
       let all = times-append p (every of i) (of i) in
-      omega (arith, rest, both, same, all)
+      omega (arith, but_none_of i (omega (arith, low)), both, same, all)
 
   -- one after the others, or none of them, has what all have
   but_one_of : (n : ℕ) → one < n → times p (all_but one of n) + times p (of one) ≡ times p (every of n)
@@ -39,26 +38,20 @@ module _ (p one : ℕ) (of : ℕ → List ℕ) where
       split (i == one) (λ b. times p (all_but one of i ++ (if b then [] else of i)) + times p (of one) ≡ times p (every of i ++ of i))
       (λ on.
       let same : i ≡ one = (Decides-eqb i one).0 on in
-      let none = but_none_of i (omega (arith, same)) in
       let own = ap (λ k. times p (of k)) same in
       let left = ap (times p) (append-nil (all_but one of i)) in
       let all = times-append p (every of i) (of i) in
-      omega (arith, none, own, left, all))
+      omega (arith, but_none_of i (omega (arith, same)), own, left, all))
       (λ off.
       let below : one < i = grind (arith, nat_tests, low, off) in
-      let rest = but_one_of i below in
-      let both = times-append p (all_but one of i) (of i) in
-      let all = times-append p (every of i) (of i) in
-      omega (arith, rest, both, all))
+      omega (arith, but_one_of i below, times-append p (all_but one of i) (of i), times-append p (every of i) (of i)))
 
   all_have : (n : ℕ) → (n ≤ one → of one ≡ []) → times p (all_but one of n) + times p (of one) ≡ times p (every of n)
   all_have n none = split (nat_lt one n) (λ _. times p (all_but one of n) + times p (of one) ≡ times p (every of n))
       (λ low. but_one_of n ((Decides-ltb one n).0 low))
       (λ high.
       let above : n ≤ one = grind (arith, nat_tests, high) in
-      let empty = ap (times p) (none above) in
-      let rest = but_none_of n above in
-      omega (arith, empty, rest))
+      omega (arith, ap (times p) (none above), but_none_of n above))
 
 module _ {F R : Type 0} (f : Semantics R) (c : Config) (items : List Msg) (w : Network (Node F R) Msg Note) (count : length w.nodes ≡ length c.names + 2)
     (each_in_place : (u : Unit) (p : ℕ)
@@ -97,10 +90,9 @@ module _ {F R : Type 0} (f : Semantics R) (c : Config) (items : List Msg) (w : N
           let third = times-append p (flat_map stored_by w.nodes)
           (on_links w handed_over_in ++ (all_but one (at_instance w) instances ++ (at_instance w one ++ behind))) in
           let fourth = times-append p (on_links w handed_over_in) (all_but one (at_instance w) instances ++ (at_instance w one ++ behind)) in
-          let fifth = times-append p (all_but one (at_instance w) instances) (at_instance w one ++ behind) in
           let last = times-append p (at_instance w one) behind in
           let all = all_have p one (at_instance w) instances (nowhere one) in
-          omega (arith, first, second, third, fourth, fifth, last, all)
+          omega (arith, first, second, third, fourth, times-append p (all_but one (at_instance w) instances) (at_instance w one ++ behind), last, all)
 
   pub parcels_are : (one : ℕ) → length (in_flight w instances one) + length (dones_in w.log) ≡ length (arrivals_in w.log)
   parcels_are one =
@@ -121,7 +113,5 @@ module _ {F R : Type 0} (f : Semantics R) (c : Config) (items : List Msg) (w : N
           (dones_in w.log) in
           let way : times p (in_flight_of f c items u w) ≡ times p (in_flight w instances (owner c items u w.log)) = times_filter (is_of f c items u) p own
           (in_flight w instances (owner c items u w.log)) in
-          let whole = each_in_place u p in
-          let order = any_order p one (owner c items u w.log) in
           let append = times-append p (in_flight w instances one) (map (λ d. d.number) (dones_in w.log)) in
-          omega (arith, all, ran, way, whole, order, append)
+          omega (arith, all, ran, way, each_in_place u p, any_order p one (owner c items u w.log), append)

@@ -26,9 +26,7 @@ answered_most (c ∷ cs) log = let own = flag_most (has_answered c.op log) in le
 pub all_answered : (cs : List Command) (log : List Note) → length cs ≤ answered_in cs log → AllAnswered cs log
 all_answered [] log h = tt
 all_answered (c ∷ cs) log h =
-    let own = flag_most (has_answered c.op log) in
-    let rest = answered_most cs log in
-    (flag_full (has_answered c.op log) (omega (arith, h, rest)), all_answered cs log (omega (arith, h, own)))
+    (flag_full (has_answered c.op log) (omega (arith, h, answered_most cs log)), all_answered cs log (omega (arith, h, flag_most (has_answered c.op log))))
 
 pub none_answered_in : (cs : List Command) (log : List Note) → Each (λ c. has_answered c.op log ≡ false) cs → answered_in cs log ≡ 0
 none_answered_in [] log h = refl
@@ -57,9 +55,8 @@ answered_other op a log least [] less h = refl
 answered_other op a log least (c ∷ cs) less h =
     let first = h.0 in
     let off : (op == c.op) ≡ false = grind (arith, nat_tests, less, first) in
-    let own = ap flag (answered_same c.op log (Note.Answered op a ∷ []) (apart_answer op c.op a off)) in
     let rest = answered_other op a log (suc c.op) cs (omega (arith, less, first)) h.1 in
-    omega (arith, own, rest)
+    omega (arith, ap flag (answered_same c.op log (Note.Answered op a ∷ []) (apart_answer op c.op a off)), rest)
 
 pub answered_one : (op : ℕ) (a : Answer) (what : Order) (log : List Note) → has_answered op log ≡ false → (least : ℕ) (cs : List Command)
     → IsRising least (map (λ c. c.op) cs) → option_map (λ c. c.what) (find (λ c. c.op == op) cs) ≡ Some what
@@ -74,15 +71,12 @@ answered_one op a what log none least (c ∷ cs) h is =
     let new : has_answered c.op (log ++ Note.Answered op a ∷ []) ≡ true = has_answered-append c.op log (Note.Answered op a ∷ [])
     ∙ ap (λ b. has_answered c.op log || (b || false)) self ∙ or-true (has_answered c.op log) in
     let old : has_answered c.op log ≡ false = ap (λ k. has_answered k log) (sym same) ∙ none in
-    let one = ap flag new in
-    let zero = ap flag old in
     let rest = answered_other op a log (suc c.op) cs (omega (arith, same)) h.1 in
-    omega (arith, one, zero, rest))
+    omega (arith, ap flag new, ap flag old, rest))
     (λ off found.
     let apart : (op == c.op) ≡ false = grind (arith, nat_tests, off) in
-    let own = ap flag (answered_same c.op log (Note.Answered op a ∷ []) (apart_answer op c.op a apart)) in
     let rest = answered_one op a what log none (suc c.op) cs h.1 found in
-    omega (arith, own, rest)) is
+    omega (arith, ap flag (answered_same c.op log (Note.Answered op a ∷ []) (apart_answer op c.op a apart)), rest)) is
 
 -- an order that is found is that of one of them
 pub found : (P : Command → Type 0) (op : ℕ) (what : Order) (cs : List Command) → Each P cs

@@ -86,9 +86,8 @@ module _ {F R : Type 0} (setting : Setting F R) where
       by_place : Stands log notes (record { before = before; item = Note.Processed p i output; after = after }) → 1 ≤ times p (arrivals_in before)
       by_place (In_first cs here) = old before cs p i output here
       by_place (In_second cs from there) =
-          let some = new cs after p i output there in
           let all = ap (λ l. times p (arrivals_in l)) from ∙ ap (times p) (arrived-append log cs) ∙ times-append p (arrivals_in log) (arrivals_in cs) in
-          omega (arith, some, all)
+          omega (arith, new cs after p i output there, all)
 
   answered_later : (log notes : List Note) → AnsweredBefore log → ((front behind : List Msg) → items ≡ front ++ Msg.InSettle ∷ behind
       → (before after : List Note) (p : ℕ) → has_packet p behind ≡ true → notes ≡ before ++ Note.Arrived p ∷ after → AllAnswered (commands front) log)
@@ -118,9 +117,8 @@ module _ {F R : Type 0} (setting : Setting F R) where
       ∙ ap (λ ps. times p (map (λ q. q.number) ps)) (packets-append ends.0 (Msg.InSettle ∷ behind))
       ∙ ap (times p) (map-append (λ q. q.number) (packets ends.0) (packets behind)) ∙ times-append p (numbers ends.0) (numbers behind) in
       let turn = ap (times p) (sym in_turn) ∙ times-append p (arrivals_in w.log) (numbers (queue_at w (at 0 0))) in
-      let one = rising_once p 0 (numbers items) is.numbers in
       let some = has_times p (packets behind) has in
-      absurd (omega (arith, all, turn, one, some, came))) (λ off. grind (arith, nat_tests, off))
+      absurd (omega (arith, all, turn, rising_once p 0 (numbers items) is.numbers, some, came))) (λ off. grind (arith, nat_tests, off))
 
   -- a choice of a run
   module _ (w : Network (Node F R) Msg Note) (d : Choice) (s : RunStep setting w d)
@@ -152,12 +150,10 @@ module _ {F R : Type 0} (setting : Setting F R) where
         ∙ sym (append_assoc w.log before (Note.Processed q i output ∷ after)) in
         let went_some : 1 ≤ times q (processed_of f c items u v.log) = subst (λ l. 1 ≤ times q (processed_of f c items u l)) (sym log)
         (some_went (is_of f c items u) q i output after own (w.log ++ before)) in
-        let few = once setting (length c.names + 2) v next.runs.joined u q in
-        let less = times_those (is_of f c items u) q (arrivals_in v.log) in
         let same : times q (arrivals_in v.log) ≡ times q (arrivals_in w.log) + 0 = ap (λ l. times q (arrivals_in l)) s.log
         ∙ ap (times q) (arrived-append w.log its_notes) ∙ times-append q (arrivals_in w.log) (arrivals_in its_notes)
         ∙ ap (λ ps. times q (arrivals_in w.log) + times q ps) none in
-        omega (arith, went_some, few, less, same)
+        omega (arith, went_some, once setting (length c.names + 2) v next.runs.joined u q, times_those (is_of f c items u) q (arrivals_in v.log), same)
 
     new_came : (k p : ℕ) (m : Msg) → d.node ≡ k → d.port ≡ p → s.taking.message ≡ m → (before after : List Note) (q i : ℕ) (output : Output)
         → (node_step f (node_of j.nodes k) p m).notes ≡ before ++ Note.Processed q i output ∷ after → 1 ≤ times q (arrivals_in w.log)
@@ -183,8 +179,7 @@ module _ {F R : Type 0} (setting : Setting F R) where
 
     none_arrives : (before after : List Note) (p : ℕ) (ns : List Note) → ns ≡ before ++ Note.Arrived p ∷ after → arrivals_in ns ≡ [] → ⊥
     none_arrives before after p ns e none =
-        let some = arrived_there before after p in
-        let same = ap (λ l. times p (arrivals_in l)) (sym e) in let zero = ap (times p) none in omega (arith, some, same, zero)
+        let same = ap (λ l. times p (arrivals_in l)) (sym e) in let zero = ap (times p) none in omega (arith, arrived_there before after p, same, zero)
 
     new_answered : (k p : ℕ) (m : Msg) → d.node ≡ k → d.port ≡ p → s.taking.message ≡ m → Label f (given setting) p k m → (front behind : List Msg)
         → items ≡ front ++ Msg.InSettle ∷ behind → (before after : List Note) (q : ℕ) → has_packet q behind ≡ true

@@ -115,10 +115,8 @@ module _ {F R : Type 0} (setting : Setting F R) where
           let home : is_home c.names (order_numbered items) ms (owner c items u there.first) ≡ true =
           ap (λ ops. is_home c.names (order_numbered items) ms (owner_after c.names (order_numbered items) u (first_owner u c.routes) ops)) there.before
           ∙ by.its.home in
-          let one = its.set_up u (units_fit setting p) by.its.takes_it home on_there in
           let two = ap (times_installed by.op) tail_is ∙ times_there by.op there.first (there.rest ++ tail) in
-          let most = (run_answers setting cs run_is).installed_once by.op in
-          omega (arith, one, two, most)
+          omega (arith, its.set_up u (units_fit setting p) by.its.takes_it home on_there, two, (run_answers setting cs run_is).installed_once by.op)
 
       shared_then : members c items u arrival.first ≡ Some ms
       shared_then =

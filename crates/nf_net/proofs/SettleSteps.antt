@@ -129,19 +129,14 @@ module _ {F R : Type 0} (g : Given) (w : Network (Node F R) Msg Note) (b : Busy 
     answered_are : answered_in (commands items) w.log ≡ answered_in (commands h.took) w.log
     answered_are =
         let parts = ap (λ cs. answered_in cs w.log) commands_are ∙ answered_in-append (commands h.took) (commands left) w.log in
-        let none = none_answered_in (commands left) w.log unanswered in
-        omega (arith, parts, none)
+        omega (arith, parts, none_answered_in (commands left) w.log unanswered)
 
     pub few : answered_in (commands items) w.log + length (commands left) ≤ length (commands items)
     few = let all = lengths in let same = answered_are in let most = answered_most (commands h.took) w.log in omega (arith, all, same, most)
 
     -- where the switch counts none, all that was taken is answered
     pub none_waits : h.switch.waiting ≡ 0 → AllAnswered (commands h.took) w.log
-    none_waits none =
-        let all = lengths in
-        let same = answered_are in
-        let balance = h.balance in
-        all_answered (commands h.took) w.log (omega (arith, all, same, balance, none))
+    none_waits none = all_answered (commands h.took) w.log (omega (arith, lengths, answered_are, h.balance, none))
 
 -- what a step does to the input
 pub data InputGoes (m : Msg) (before after : List Msg) (ready : Type 0) : Type 0 where

@@ -107,29 +107,21 @@ module _ (n : ℕ) (first : Bool) (x : OpenAt) (op_is : x.share.plan.op ≡ x.nu
   answered_same : (op k : ℕ) (o : Option Answer) → sent_weight (once first k) n 1 (answered op o r.sends) ≡ sent_weight (once first k) n 1 r.sends
   answered_same op k None = refl
   answered_same op k (Some why) =
-      let both = sent_weight-append (once first k) n 1 r.sends ((switch_node, Msg.Answered op) ∷ []) in
       let none = no_one n 1 first switch_node (Msg.Answered op) (λ y. refl) k in
-      omega (arith, both, none)
+      omega (arith, sent_weight-append (once first k) n 1 r.sends ((switch_node, Msg.Answered op) ∷ []), none)
 
   weight : (k : ℕ) → sent_weight (once first k) n 1 did.sends ≡ sent_weight (once first k) n 1 r.sends
   weight k =
-      let all = ap (sent_weight (once first k) n 1) l.sends in
       let both = sent_weight-append (once first k) n 1 (answered x.num r.answer r.sends) (service_if_idle x.share.plan r.phase x.cells).sends in
-      let own = answered_same x.num k r.answer in
-      let none = served_none n first x.share.plan r.phase x.cells k in
-      omega (arith, all, both, own, none)
+      omega (arith, ap (sent_weight (once first k) n 1) l.sends, both, answered_same x.num k r.answer, served_none n first x.share.plan r.phase x.cells k)
 
   -- what it sends for its own command, and for another
   pub leaves_own : sent_weight (once first x.num) n 1 did.sends + asked x.share.phase ≤ asked (service_if_idle x.share.plan r.phase x.cells).phase
   leaves_own =
-      let weighs = weight x.num in
       let own = subst (λ k. sent_weight (once first k) n 1 r.sends + asked x.share.phase ≤ asked r.phase) op_is a.own in
-      let same = served_same n first x.share.plan r.phase x.cells in
-      omega (arith, weighs, own, same)
+      omega (arith, weight x.num, own, served_same n first x.share.plan r.phase x.cells)
 
   pub leaves_other : (k : ℕ) → (k == x.num) ≡ false → sent_weight (once first k) n 1 did.sends ≡ 0
   leaves_other k off =
-      let weighs = weight k in
       let apart : (x.share.plan.op == k) ≡ false = grind (arith, nat_tests, off, op_is) in
-      let none = a.other k apart in
-      omega (arith, weighs, none)
+      omega (arith, weight k, a.other k apart)

@@ -132,9 +132,8 @@ module _ {F R : Type 0} (setting : Setting F R) where
           unprocessed_at f c items u x.plan.from (switch_step j.nodes.switch m).notes (switch_unprocessed j.nodes.switch m),
         )
     switch_leaves p m it (Diverts k filter from rest noted its whole waits) op x there early u fits owning owned =
-        let order_is = its.order_is in
         let handed : owner_after_order c.names (order_numbered items) u (order_numbered items k) (owner c items u w.log) ≡ owner c items u w.log =
-        rw order_is refl in (
+        rw its.order_is refl in (
           ap (λ ns. owner c items u (w.log ++ ns)) noted ∙ owner_next g u w.log k ∙ handed ∙ owned,
           unprocessed_at f c items u x.plan.from (switch_step j.nodes.switch m).notes (switch_unprocessed j.nodes.switch m),
         )
@@ -173,13 +172,11 @@ module _ {F R : Type 0} (setting : Setting F R) where
           by_place : Stands w.log notes (record { before = first; item = Note.Begun op; after = rest })
               → (owner c items u (w.log ++ notes) ≡ i) × AreAt f c items u i rest
           by_place (In_first cs here) =
-              let once = (after.is.answered op).begun_once in
               let self : (op == op) ≡ true = grind (arith, nat_tests) in
               let log = ap (times_begun op) (left ∙ ap (λ ns. w.log ++ ns) e) ∙ times_begun-append op w.log (Note.Begun op ∷ []) in
               let new : times_begun op (Note.Begun op ∷ []) ≡ 1 = rw self refl in
               let old = ap (times_begun op) here ∙ times_begun-append op first (Note.Begun op ∷ cs) in
-              let some = counted_now op (begins_in cs) in
-              absurd (omega (arith, once, log, new, old, some))
+              absurd (omega (arith, (after.is.answered op).begun_once, log, new, old, counted_now op (begins_in cs)))
           by_place (In_second cs from there) = by_alone (alone (Note.Begun op) (Note.Begun op) cs rest (sym e ∙ there))
             where
               by_alone : Alone (Note.Begun op) (Note.Begun op) cs rest → (owner c items u (w.log ++ notes) ≡ i) × AreAt f c items u i rest
@@ -226,9 +223,7 @@ module _ {F R : Type 0} (setting : Setting F R) where
               let one : length (answers_of op (Note.Answered op a ∷ [])) ≡ 1 = rw self refl in
               let all = ap (λ l. length (answers_of op l)) (left ∙ ap (λ ns. w.log ++ ns) noted) ∙ ap length
               (answers_of-append op w.log (Note.Answered op a ∷ [])) ∙ length-append (answers_of op w.log) (answers_of op (Note.Answered op a ∷ [])) in
-              let some = some_answers op w.log answered in
-              let once = (after.is.answered op).answered_once in
-              absurd (omega (arith, one, all, some, once))
+              absurd (omega (arith, one, all, some_answers op w.log answered, (after.is.answered op).answered_once))
             where
               answered_of : (q : Bool) → true && not q ≡ false → q ≡ true
               answered_of true h = refl

@@ -189,12 +189,10 @@ module _ {F R : Type 0} (setting : Setting F R) (n : ℕ) (w : Network (Node F R
 
         one_at : (before after : List Note) (x : Note) → notes ≡ before ++ x ∷ after → Is_at f c items u m.plan.from x
         one_at before after (Note.Processed number i output) e = λ mine.
-            let quiet = each_there_is before after number i output e in
             let node = node_is before after number i output e mine
             (ran_as f laws g (all_fit setting) k own j.world (omega arith) at p y message is_taken.label) in
             let source = ap (λ o. o.src) is_open.sees.op in
-            let index = at.number in
-            omega (arith, quiet, node, source, index)
+            omega (arith, each_there_is before after number i output e, node, source, at.number)
           where
             each_there_is : (before after : List Note) (number i : ℕ) (output : Output) → notes ≡ before ++ Note.Processed number i output ∷ after
                 → i ≡ own.index

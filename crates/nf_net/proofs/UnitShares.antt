@@ -130,9 +130,7 @@ module _ {F R : Type 0} (setting : Setting F R) (n : ℕ) (count_is : n ≡ leng
       by_got : (o : Option Operation) → finite.get h.controller.operations op ≡ o → IsOpenShare op ms filter
       by_got None at =
           let zero : open_in (finite.get h.controller.operations op) ≡ 0 = ap open_in at in
-          let balance = h.balance op in
-          let none = none_done in
-          absurd (omega (arith, balance, none, zero, some))
+          absurd (omega (arith, h.balance op, none_done, zero, some))
       by_got (Some o) at = share_open op ms filter what (Some o) (ap (λ x. finite.get x.operations op) (sym same) ∙ at) refl
 
   pub open_begun : (op : ℕ) (ms : List (List ℕ)) (filter : Filter) → order_numbered items op ≡ Some (Order.Share ms filter) → is_begun op w.log ≡ true

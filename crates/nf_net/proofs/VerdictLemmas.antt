@@ -97,9 +97,8 @@ module _ {F R : Type 0} (f : Semantics R) (op : ℕ) where
 
   taken_counts : (w : Network (Node F R) Msg Note) (front back : List Choice) (c : Choice) → IsThere w front c → 1 ≤ times_taken (front ++ c ∷ back) w
   taken_counts w front back c h =
-      let both = times_taken-append front (c ∷ back) w in
       let here : ◌≡◌ {A = ℕ} (if is_first_piece op (queue_at (run (node_step f) front w) c) then 1 else 0) 1 = rw h refl in
-      omega (arith, both, here)
+      omega (arith, times_taken-append front (c ∷ back) w, here)
 
   -- two in one list are two
   two_taken : (w : Network (Node F R) Msg Note) (c d : Choice) (front xs ys back : List Choice) (e : Choice) → IsThere w [] c → IsThere w (d ∷ front) e
@@ -116,9 +115,7 @@ module _ {F R : Type 0} (f : Semantics R) (op : ℕ) where
   same_front : (w : Network (Node F R) Msg Note) (xs ys back after : List Choice) (c d : Choice) → IsThere w xs c → IsThere w ys d
       → xs ++ c ∷ back ≡ ys ++ d ∷ after → times_taken (xs ++ c ∷ back) w ≤ 1 → ys ≡ xs
   same_front w [] [] back after c d first second is few = refl
-  same_front w [] (y ∷ ys) back after c d first second is few =
-      let two = two_taken w c y ys back [] after d first second is in
-      absurd (omega (arith, two, few))
+  same_front w [] (y ∷ ys) back after c d first second is few = absurd (omega (arith, two_taken w c y ys back [] after d first second is, few))
   same_front w (x ∷ xs) [] back after c d first second is few =
       let two = two_taken w d x xs after [] back c second first (sym is) in
       let two' : 2 ≤ times_taken (x ∷ (xs ++ c ∷ back)) w = subst (λ zs. 2 ≤ times_taken zs w) (sym is) two in

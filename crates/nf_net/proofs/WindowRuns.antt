@@ -32,12 +32,11 @@ module _ {F R : Type 0} (f : Semantics R) (g : Given) (n : ℕ) (window : ℕ) w
   balance_after w k p node m rest takes before after balance changes =
       let left = taken_outcome (node_step f) n w k p node m rest takes in
       let notes = (node_step f node p m).notes in
-      let weight = total_after (node_step f) n w k p node m rest takes credit in
       let went : length (dones_in (world_next (node_step f) w (at k p)).log) ≡ length (dones_in w.log) + length (dones_in notes) =
       ap (λ v. length (dones_in v)) left.log ∙ ap length (done-append w.log notes) ∙ length-append (dones_in w.log) (dones_in notes) in
       let came : length (arrivals_in (world_next (node_step f) w (at k p)).log) ≡ length (arrivals_in w.log) + length (arrivals_in notes) =
       ap (λ v. length (arrivals_in v)) left.log ∙ ap length (arrived-append w.log notes) ∙ length-append (arrivals_in w.log) (arrivals_in notes) in
-      omega (arith, balance, changes, weight, went, came)
+      omega (arith, balance, changes, total_after (node_step f) n w k p node m rest takes credit, went, came)
 
   window_after : (w : Network (Node F R) Msg Note) (k p : ℕ) (m : Msg) (rest : List Msg) (j : Joined f g n w)
       (takes : Takes (node_step f) n w k p (node_of j.nodes k) m rest)
@@ -51,19 +50,17 @@ module _ {F R : Type 0} (f : Semantics R) (g : Given) (n : ℕ) (window : ℕ) w
       let same : h.switch ≡ s = cc in
       let balance : length (dones_in w.log) + s.flying ≡ length (arrivals_in w.log) + total credit w =
       ap (λ x. length (dones_in w.log) + x.flying) (sym same) ∙ h.balance in
-      let weight = total_after (node_step f) n w 0 p (Switch s) m rest takes credit in
       let did = switch_counts window s (ap (λ x. x.pool.cells) (sym same) ∙ h.cells) (ap (λ x. x.flying + x.pool.home) (sym same) ∙ h.home) m (λ cell e.
       let comes : Label f g p 0 (Msg.Credit cell) = subst (λ a. Label f g p 0 a) e labelled in
       let one : credit m ≡ 1 = ap credit e in
-      (comes.2 ∙ sym j.shown_is.switch.pool, omega (arith, few, balance, weight, sent, one))) in
-      let flying = did.flying in
+      (comes.2 ∙ sym j.shown_is.switch.pool, omega (arith, few, balance, total_after (node_step f) n w 0 p (Switch s) m rest takes credit, sent, one))) in
       let went = ap length did.went in
       record {
         switch = (switch_step s m).node;
         there = left.own;
         cells = did.cells;
         home = did.home;
-        balance = balance_after w 0 p (Switch s) m rest takes s.flying (switch_step s m).node.flying balance (omega (arith, flying, went, sent));
+        balance = balance_after w 0 p (Switch s) m rest takes s.flying (switch_step s m).node.flying balance (omega (arith, did.flying, went, sent));
       }
   window_after w (suc zero) p m rest j takes labelled labels few h =
       let left = taken_outcome (node_step f) n w 1 p (node_of j.nodes 1) m rest takes in
@@ -83,17 +80,15 @@ module _ {F R : Type 0} (f : Semantics R) (g : Given) (n : ℕ) (window : ℕ) w
       let instance = j.nodes.instance k in
       let left = taken_outcome (node_step f) n w k p (node_of j.nodes k) m rest takes in
       let none = no_credit_to f g p k m (omega arith) labelled in
-      let some = takes.some in
-      let reach : reaches n k 0 ≡ true = grind (arith, nat_tests, some) in
+      let reach : reaches n k 0 ≡ true = grind (arith, nat_tests, takes.some) in
       let did = instance_is f n k reach instance m in
       let came = ap length did.came in
-      let even = did.even in
       record {
         switch = h.switch;
         there = λ d. left.others 0 d (omega arith) ∙ h.there d;
         cells = h.cells;
         home = h.home;
-        balance = balance_after w k p (node_of j.nodes k) m rest takes h.switch.flying h.switch.flying h.balance (omega (arith, none, came, even));
+        balance = balance_after w k p (node_of j.nodes k) m rest takes h.switch.flying h.switch.flying h.balance (omega (arith, none, came, did.even));
       }
 
 -- what messages weigh as cells that go home is how many these are
@@ -104,11 +99,7 @@ weigh_link (m ∷ ms) = let rest = weigh_link ms in omega (arith, rest)
 
 weigh_links : (links : List (List Msg)) → weigh (weigh credit) links ≡ length (flat_map (flat_map homeward) links)
 weigh_links [] = refl
-weigh_links (ms ∷ links) =
-    let own = weigh_link ms in
-    let rest = weigh_links links in
-    let both = length-append (flat_map homeward ms) (flat_map (flat_map homeward) links) in
-    omega (arith, own, rest, both)
+weigh_links (ms ∷ links) = omega (arith, weigh_link ms, weigh_links links, length-append (flat_map homeward ms) (flat_map (flat_map homeward) links))
 
 -- an input has no credits
 pub items_none : {R : Type 0} (f : Semantics R) (g : Given) (items : List Msg) → Each (Label f g 0 0) items → weigh credit items ≡ 0
@@ -142,14 +133,12 @@ module _ {F R : Type 0} (setting : Setting F R) where
       let j = (run_beside setting cs run_is).joined in
       let count = (after_world setting cs run_is).1 in
       let none = items_none f (given setting) w.input (j.labels 0 0 (omega (arith, count)) (omega (arith, count))) in
-      let links = weigh_links w.links in
-      omega (arith, none, links)
+      omega (arith, none, weigh_links w.links)
 
   switch_there : (cs : List Choice) (run_is : IsCourse setting cs) → switch_of (world_of setting cs) ≡ Some (in_window cs run_is).switch
   switch_there cs run_is =
       let h = in_window cs run_is in
-      let count = (after_world setting cs run_is).1 in
-      ap switch_in (slice_get-get_or (world_of setting cs).nodes 0 (Switch h.switch) (omega (arith, count)))
+      ap switch_in (slice_get-get_or (world_of setting cs).nodes 0 (Switch h.switch) (omega (arith, (after_world setting cs run_is).1)))
       ∙ ap (λ d. switch_in (Some d)) (h.there (Switch h.switch))
 
   -- every run keeps the window
@@ -169,13 +158,11 @@ module _ {F R : Type 0} (setting : Setting F R) where
   all_home cs run_is complete =
       let w = world_of setting cs in
       let h = in_window cs run_is in
-      let count = (after_world setting cs run_is).1 in
       let ended : node_ended {F = F} {R = R} (Switch h.switch) ≡ true = ap node_ended (sym (h.there (Switch h.switch)))
-      ∙ done_node node_ended w complete 0 (Switch h.switch) (omega (arith, count)) in
+      ∙ done_node node_ended w complete 0 (Switch h.switch) (omega (arith, (after_world setting cs run_is).1)) in
       let landed : h.switch.flying ≡ 0 = grounded h.switch.closed h.switch.flying ended in
-      let none = done_weight node_ended w complete credit in
       record {
-        none_under_way = let balance = h.balance in omega (arith, balance, landed, none);
+        none_under_way = let balance = h.balance in omega (arith, balance, landed, done_weight node_ended w complete credit);
         switch = h.switch;
         switch_is = switch_there cs run_is;
         cells = let home = h.home in omega (arith, home, landed);

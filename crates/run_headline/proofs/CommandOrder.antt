@@ -116,8 +116,7 @@ module _ {F R : Type 0} (f : Semantics R) (g : Given) (n : ℕ) (count_is : n �
     open_noted : (k : ℕ) → finite.contains_key j.nodes.controller.operations k ≡ true → is_noted k w.log ≡ true
     open_noted k there =
         let parts = and_parts (is_begun k w.log) _ (sym (keeps_is f g n count_is w j b k) ∙ there) in
-        let begun = parts.0 in
-        rw begun refl
+        rw parts.0 refl
 
     -- a command that is asked for is later than all that were noted
     first_waits : (c : Command) → m ≡ msg.Asked c → Takes step n w 1 p (node_of j.nodes 1) m rest → b.is.next ≤ c.op

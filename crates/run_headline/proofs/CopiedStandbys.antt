@@ -198,10 +198,7 @@ module _ {R : Type 0} (F : Type 0) (f : Semantics R) (laws : FunctionLaws f) (al
     moment = length (dones_in given_at.log)
 
     late : length (packets front) ≤ moment + c.window
-    late =
-        let came = copied.to_give.came front behind k whole refl in
-        let few = (every_run setting copied.before its_run).window.under_way in
-        omega (arith, came, few)
+    late = omega (arith, copied.to_give.came front behind k whole refl, (every_run setting copied.before its_run).window.under_way)
 
     log_is : (rest : List Note) × (w.log ≡ given_at.log ++ rest)
     log_is = let it = after_export k.op w.log in (it.0, it.1 ∙ ap (λ l. l ++ it.0) copied.gave)

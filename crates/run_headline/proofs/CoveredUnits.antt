@@ -83,9 +83,8 @@ module _ {R : Type 0} (f : Semantics R) (c : Config) (items : List Msg) (log : L
       → list_any (λ k. test k.what && is_answered is_done (by_number answer_in log) k.op) (commands items) ≡ true
   installed_any test op what order among on =
       let one = answer_to log answered.answered_once items numbers op what order in
-      let laid = installed_some op log among in
       let refused : one.0 ≢ answers.Done → ⊥ = λ other. (let none = answered.refused_is_not_installed op what one.0 order one.1 other in
-      absurd (omega (arith, none, laid))) in
+      absurd (omega (arith, none, installed_some op log among))) in
       let done : is_answered is_done (by_number answer_in log) op ≡ true = so_answered is_done answers.Done refl op log (one.1
       ∙ ap (λ a. a ∷ []) (is_it one.0 refused)) in
       found_any (λ k. test k.what && is_answered is_done (by_number answer_in log) k.op) op what (rw (on, done) refl) (commands items) order

@@ -22,8 +22,7 @@ module _ {X : Type 0} (number : X → ℕ) where
       → AllByRecursion (IsFound (x ∷ xs)) ys
   all_past x least xs [] low rising all = tt
   all_past x least xs (y ∷ ys) low rising all =
-      let first = rising.0 in
-      let less : number x < number y = omega (arith, low, first) in
+      let less : number x < number y = omega (arith, low, rising.0) in
       (find_past (number y) xs x less ∙ all.0, all_past x (suc (number y)) xs ys (omega (arith, less)) rising.1 all.1)
 
   pub all_found : (least : ℕ) (xs : List X) → IsRising least (map number xs) → AllByRecursion (IsFound xs) xs

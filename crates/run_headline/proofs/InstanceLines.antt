@@ -252,8 +252,7 @@ module _ {R : Type 0} (F : Type 0) (f : Semantics R) (laws : FunctionLaws f) (al
           let busy = run_busy setting choices is.is_run in
           let reached = run_world node_ready (node_step f) (length c.names + 2) (started_with alloc c items) (start_world setting)
           (count_at_start setting) choices is.is_run in
-          let own = owns in
-          let off : (instance_node i == instance_node (owner c items u w.log)) ≡ false = grind (arith, nat_tests, apart, own) in
+          let off : (instance_node i == instance_node (owner c items u w.log)) ≡ false = grind (arith, nat_tests, apart, owns) in
           member_stands setting (length c.names + 2) refl w reached.1 run.joined run.beside.kept.apart busy.1 u (fits u r kept) op
           (home ∷ others) taken
           order on begun at_home

@@ -39,12 +39,8 @@ module _ {R : Type 0} where
     counted_put x (y ∷ ys) =
         elim (is_lt (unit_cmp y.unit x.unit)) as (λ b. counted (cond b (y ∷ put_in (λ s. s.unit) unit_cmp x ys) (x ∷ y ∷ ys)) ≡ counted (x ∷ y ∷ ys)) [
           | true ↦
-              let rest = counted_put x ys in
               let first = counted_cons y (put_in (λ s. s.unit) unit_cmp x ys) in
-              let put = counted_cons x ys in
-              let all = counted_cons x (y ∷ ys) in
-              let last = counted_cons y ys in
-              omega (arith, rest, first, put, all, last)
+              omega (arith, counted_put x ys, first, counted_cons x ys, counted_cons x (y ∷ ys), counted_cons y ys)
           | false ↦ refl
         ]
 
@@ -52,10 +48,8 @@ module _ {R : Type 0} where
     counted_sorted [] = refl
     counted_sorted (x ∷ xs) =
         let put = counted_put x (sorted_by (λ s. s.unit) unit_cmp xs) in
-        let rest = counted_sorted xs in
         let first = counted_cons x (sorted_by (λ s. s.unit) unit_cmp xs) in
-        let last = counted_cons x xs in
-        omega (arith, put, rest, first, last)
+        omega (arith, put, counted_sorted xs, first, counted_cons x xs)
 
     -- those of one instance
     abbrev under : List ℕ → units.Unit × R → NamedRecord R
@@ -76,11 +70,8 @@ module _ {R : Type 0} where
     of_each : (there : List (NamedInstance R)) → counted (flat_map (named_records true) there) ≡ sum_by share_of there
     of_each [] = refl
     of_each (i ∷ there) =
-        let both = counted_append (named_records true i) (flat_map (named_records true) there) in
         let own = under_name i.name (finite.entries i.table.live) ∙ ap (λ n. if bytes_eq i.name name then n else 0) (sym (finite.len-entries i.table.live)) in
-        let rest = of_each there in
-        let first = sum_by-cons share_of i there in
-        omega (arith, both, own, rest, first)
+        omega (arith, counted_append (named_records true i) (flat_map (named_records true) there), own, of_each there, sum_by-cons share_of i there)
 
     pub counts_each : (there : List (NamedInstance R)) → sum_by share_of there ≡ count_by has_name (by_unit true there)
     counts_each there = sym (counted_sorted (flat_map (named_records true) there) ∙ of_each there)

@@ -53,17 +53,13 @@ module _ {R : Type 0} (F : Type 0) (f : Semantics R) (laws : FunctionLaws f) (al
       let tallied = run_tallied setting choices is.is_run in
       let it : IsTallied f w.log (suc (suc i)) x = subst (AtNode f w.log (suc (suc i))) (there (Instance x))
       (tallied.at_nodes (suc (suc i)) within (Instance x)) in
-      let node = it.node in
-      let index : x.index ≡ i = omega (arith, node) in
+      let index : x.index ≡ i = omega (arith, it.node) in
       let own : slice_index x.tally.slots i ≡ min (done_at i w.log) most = subst (λ k. slice_index x.tally.slots k ≡ min (done_at k w.log) most) index
       it.count.own in
-      let lines = lines_done w.log in
       let pass = few_pass (λ d. d.1 == i) (filter_map done_in w.log) in
-      let parcels = is.promises.parcels 0 in
       let came = ap length is.completed.all_came ∙ length-map (packets items) (λ p. p.number) in
-      let few = is.is_input.few in
       record {
         low = (let long = it.count.low in omega (arith, long, index));
-        own = omega (arith, own, lines, pass, parcels, came, few);
+        own = omega (arith, own, lines_done w.log, pass, is.promises.parcels 0, came, is.is_input.few);
         others = λ j. (let below = it.below j in omega (arith, below));
       }

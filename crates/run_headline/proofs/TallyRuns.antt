@@ -156,14 +156,13 @@ module _ {F R : Type 0} (f : Semantics R) where
     counted_left : (did : Step F R) → Counted f (done_at i.index log) i did → Left did
     counted_left did c =
         let index = c.index in
-        let long = c.long in
         let low = h.count.low in
         let all = done_append i.index log did.notes in
         let own : slice_index did.node.tally.slots i.index ≡ min (done_at i.index (log ++ did.notes)) most = (let is = c.own in omega (arith, is, all)) in (
           record {
             node = ap instance_node index ∙ h.node;
             count = record {
-              low = omega (arith, low, index, long);
+              low = omega (arith, low, index, c.long);
               own = subst (λ x. slice_index did.node.tally.slots x ≡ min (done_at x (log ++ did.notes)) most) (sym index) own;
             };
             below = λ j. elim (j == i.index) as (λ b. (j == i.index) ≡ b → slice_index did.node.tally.slots j ≤ min (done_at j (log ++ did.notes)) most) [
@@ -188,12 +187,11 @@ module _ {F R : Type 0} (f : Semantics R) where
     taken_left : (slots : List ℕ) (op : ℕ) → IsTally i.tally.slots → IsTally slots → Below log slots → Left (tally_put i op (Ok slots))
     taken_left slots op tally other low =
         let same : length i.tally.slots ≡ length slots = tally.size ∙ sym other.size in
-        let long = merge_laws.slots i.tally.slots slots same in
         let index = h.count.low in (
           record {
             node = h.node;
             count = record {
-              low = omega (arith, long, index);
+              low = omega (arith, merge_laws.slots i.tally.slots slots same, index);
               own = (let is = merge_laws.greater i.tally.slots slots same i.index in let own = h.count.own in let less = low i.index in
                   let all = done_append i.index log [] in omega (arith, is, own, less, all));
             };
@@ -336,9 +334,8 @@ module _ {F R : Type 0} (setting : Setting F R) where
 
   tallied_at_start : Tallied f nodes first
   tallied_at_start =
-      let many = count_at_start setting in
       record {
-        way = opening_on_links Note (first_nodes {F = F} {R = R} alloc c) items (Bounded f []) (omega (arith, many)) (items_way items);
+        way = opening_on_links Note (first_nodes {F = F} {R = R} alloc c) items (Bounded f []) (omega (arith, count_at_start setting)) (items_way items);
         at_nodes = first_at;
       }
     where
@@ -346,9 +343,8 @@ module _ {F R : Type 0} (setting : Setting F R) where
       first_at zero low d = tt
       first_at (suc zero) low d = tt
       first_at (suc (suc i)) low d =
-          let few = is.is_config.few in
           let there : i < length c.names = omega (arith, low) in
-          subst (AtNode f [] (suc (suc i))) (sym (instance_found setting (length c.names) i d there)) (first_tallied i (omega (arith, few, there)))
+          subst (AtNode f [] (suc (suc i))) (sym (instance_found setting (length c.names) i d there)) (first_tallied i (omega (arith, is.is_config.few, there)))
 
   abbrev AllOf : Network (Node F R) Msg Note → Type 0
   AllOf w = Runs setting w × (HasEnough f nodes w × Tallied f nodes w)

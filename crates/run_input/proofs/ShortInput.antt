@@ -35,12 +35,9 @@ pub short_is : (names : List Word) (script : Script) (ps : List Packet) (its : L
     → its ≡ items ps script.lines.items → length ps ≤ most_packets → IsShort its
 short_is names script ps its right is few =
     let ls = script.lines.items in
-    let count = lines_from ps ls (in_order 0 1 ls right.follow) in
-    let all = ap length (from_start ls) in
-    let viewed = length-map ls line_view in
     let few_lines = right.few_lines in
     rw is (record {
       few_packets = rw (packets_in ps ls) few;
-      few_lines = omega (arith, count, all, viewed, few_lines);
+      few_lines = omega (arith, lines_from ps ls (in_order 0 1 ls right.follow), ap length (from_start ls), length-map ls line_view, few_lines);
       ended = rw (ends_once ps ls) refl;
     })

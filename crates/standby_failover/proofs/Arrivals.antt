@@ -65,12 +65,9 @@ module _ {F R : Type 0} (x : Failover F R) (left : IsLeft x) where
           let u = unit_in x.job p in
           let m = is_of x.job.function x.job.config x.job.items u in
           let own = of_itself x p in
-          let some = some_in p (numbers_done x.world.log) e in
-          let went_is = done_times m p own (dones_in x.world.log) in
-          let few = left.promises.once u p in
           let came_is = times_filter m p own (arrivals_in x.world.log) in
           let none = none_times p (arrivals_in x.world.log) t in
-          absurd (omega (arith, some, went_is, few, came_is, none))
+          absurd (omega (arith, some_in p (numbers_done x.world.log) e, done_times m p own (dones_in x.world.log), left.promises.once u p, came_is, none))
 
   pub found_done : (p : ℕ) → is_in p (numbers_done x.world.log) ≡ true → (q : Packet) × (find (λ q. q.number == p) (packets x.job.items) ≡ Some q)
   found_done p e = found_came p (came_done p e)

@@ -72,10 +72,9 @@ module _ {F R : Type 0} (x : Failover F R) where
     still_some : (r : Option R) (ns : List ℕ) → is_some r ≡ true → is_some (fold f c items r ns) ≡ true
     still_some r [] some = some
     still_some r (p ∷ ns) some =
-        let transport = (input_fits c items left.is_input p).transport in
         let next : Option R = Some (f.stepped c.site r (packet_numbered items p)).kept in
         let rest = still_some next ns refl in
-        rw transport rest
+        rw ((input_fits c items left.is_input p).transport) rest
 
     -- and an affected unit has a processed packet
     some_of : (ns : List ℕ) → is_some (record_kept x ns) ≡ true → (ms : List ℕ) → is_some (record_kept x (ns ++ ms)) ≡ true

@@ -61,10 +61,7 @@ once_middle p xs ys h =
 
 -- what stands after a front isn't more than all
 times_drop : (p r : ℕ) (xs : List ℕ) → times p (drop r xs) ≤ times p xs
-times_drop p r xs =
-    let whole = ap (times p) (take-append-drop r xs) in
-    let both = times-append p (take r xs) (drop r xs) in
-    omega (arith, whole, both)
+times_drop p r xs = omega (arith, ap (times p) (take-append-drop r xs), times-append p (take r xs) (drop r xs))
 
 drop_past : (r : ℕ) (xs ys : List ℕ) (p : ℕ) → length xs < r → times p ys ≡ 0 → times p (drop r (xs ++ p ∷ ys)) ≤ times p xs
 drop_past zero [] ys p more none = absurd (omega (arith, more))
@@ -79,8 +76,7 @@ after_first r p xs ys h few = ap (is_in p) (drop-append-le r xs (p ∷ ys) few) 
 pub among : (r p : ℕ) (xs ys : List ℕ) → times p (xs ++ p ∷ ys) ≤ 1 → length xs < r → is_in p (drop r (xs ++ p ∷ ys)) ≡ false
 among r p xs ys h more =
     let none = once_middle p xs ys h in
-    let rest = drop_past r xs ys p more none.1 in
-    none_in p (drop r (xs ++ p ∷ ys)) (omega (arith, rest, none.0))
+    none_in p (drop r (xs ++ p ∷ ys)) (omega (arith, drop_past r xs ys p more none.1, none.0))
 
 -- what is picked out by two tests, in either order
 pub those_filter : {X : Type 0} (m l : X → Bool) (xs : List X) → filter m (filter l xs) ≡ filter l (filter m xs)

@@ -101,9 +101,7 @@ module _ {F R : Type 0} (x : Failover F R) (laws : FunctionLaws x.job.function) 
     seen_more : length ws < reflected_by x u → has_seen_more f (standing x u) (record_kept x (take (reflected_by x u) ws)) ≡ true
     seen_more more =
         let all : take (reflected_by x u) ws ≡ ws = take_all (reflected_by x u) ws (omega (arith, more)) in
-        let few = room x left.is_input left.promises u in
-        let own = enough in
-        let counted = counts x left.is_input left.promises laws ws (omega (arith, few, own)) in
+        let counted = counts x left.is_input left.promises laws ws (omega (arith, room x left.is_input left.promises u, enough)) in
         ap (λ qs. has_seen_more f (standing x u) (record_kept x qs)) all ∙ sees_more f (standing x u) (record_kept x ws) (omega (arith, counted, more))
 
     seen_all : reflected_by x u ≤ length ws → has_seen_more f (standing x u) (record_kept x (take (reflected_by x u) ws)) ≡ false

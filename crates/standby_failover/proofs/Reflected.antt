@@ -36,32 +36,25 @@ module _ {F R : Type 0} (x : Failover F R) where
     once_done p =
         let u = unit_in x.job p in
         let own = of_itself p in
-        let went_is = done_times (is_of f c items u) p own (dones_in x.world.log) in
-        let few = ps.once u p in
         let came_is = times_filter (is_of f c items u) p own (arrivals_in x.world.log) in
-        let single = ps.came_once p in
-        omega (arith, went_is, few, came_is, single)
+        omega (arith, done_times (is_of f c items u) p own (dones_in x.world.log), ps.once u p, came_is, ps.came_once p)
 
     -- no more is processed of a unit than a record counts
     pub room : (u : units.Unit) → length (processed_of x u) ≤ most_counted
     room u =
-        let some = no_longer (processed_of x u) (arrived_of f c items u x.world.log) (ps.once u) in
         let kept = length-filter (is_of f c items u) (arrivals_in x.world.log) in
         let fewer = count_by-le-length (is_of f c items u) (arrivals_in x.world.log) in
         let turn = front_length (arrivals_in x.world.log) (map (λ p. p.number) (packets items)) ps.in_turn in
         let all = length-map (packets items) (λ p. p.number) in
-        let few = is.few in
-        omega (arith, some, kept, fewer, turn, all, few)
+        omega (arith, no_longer (processed_of x u) (arrived_of f c items u x.world.log) (ps.once u), kept, fewer, turn, all, is.few)
 
     module _ (laws : FunctionLaws x.job.function) where
       fold_counts : (r : Option R) (ns : List ℕ) → packets_in f r + length ns ≤ most_counted → packets_in f (fold f c items r ns) ≡ packets_in f r + length ns
       fold_counts r [] few = omega arith
       fold_counts r (p ∷ ns) few =
-          let transport = (input_fits c items is p).transport in
           let next : Option R = Some (f.stepped c.site r (packet_numbered items p)).kept in
           let one : packets_in f next ≡ packets_in f r + 1 = laws.counts c.site r (packet_numbered items p) ∙ min-eq_left (omega (arith, few)) in
-          let rest = fold_counts next ns (omega (arith, few, one)) in
-          rw transport (omega (arith, rest, one))
+          rw ((input_fits c items is p).transport) (omega (arith, fold_counts next ns (omega (arith, few, one)), one))
 
       -- a record has counted the packets that it is folded of
       pub counts : (ns : List ℕ) → length ns ≤ most_counted → packets_in f (record_kept x ns) ≡ length ns
@@ -70,9 +63,7 @@ module _ {F R : Type 0} (x : Failover F R) where
       pub counts_first : (u : units.Unit) (k : ℕ) → k ≤ length (processed_of x u) → packets_in f (record_kept x (take k (processed_of x u))) ≡ k
       counts_first u k few =
           let long = length-take-le k (processed_of x u) few in
-          let all = room u in
-          let it = counts (take k (processed_of x u)) (omega (arith, long, few, all)) in
-          omega (arith, it, long)
+          omega (arith, counts (take k (processed_of x u)) (omega (arith, long, few, room u)), long)
 
       only_one : (u : units.Unit) (k : ℕ) → IsReflected x u k → k ≡ reflected_by x u
       only_one u k h = sym (counts_first u k h.within) ∙ ap (packets_in f) h.folds

@@ -65,22 +65,18 @@ module _ (F : Type 0) {R : Type 0} (f : Semantics R) (laws : Laws f) (alloc : Gl
       let g = found f n w h.scene h.shows c.node c.port t.takes.receiver t.takes.sender t.node t.message t.rest t.takes t.was_ready in
       let k = kept f laws job job_is h.scene h.holds g.0 in
       let its = flow f laws job job_is h.scene h.holds g.0 in
-      let long = length-append cs (c ∷ []) in
       let by = g.2 in
       let sends = by.sends in
       let after = (λ (weighs : Msg → ℕ). total_after (node_step f) (n + 2) w c.node c.port t.node t.message t.rest t.takes weighs) in
       let same = (λ (weighs : Msg → ℕ). ap (λ z. total weighs (world_next (node_step f) w c) + weighs z) by.message ∙ after weighs
       ∙ ap (λ ms. total weighs w + sent_weight weighs (n + 2) c.node ms) sends
       ∙ ap (λ i. total weighs w + sent_weight weighs (n + 2) i (sends_of f n h.scene g.0)) (sym by.node_is)) in
-      let all = same (weight beside) in
       let few = few_sent beside (n + 2) (node_of n h.scene g.0) (sends_of f n h.scene g.0) in
-      let falls = its.falls in
-      let was = h.lighter in
       record {
         scene = next_scene f n h.scene g.0;
         shows = g.1 k.0;
         holds = k.1;
-        lighter = omega (arith, long, all, few, falls, was);
+        lighter = omega (arith, length-append cs (c ∷ []), same (weight beside), few, its.falls, h.lighter);
         flies = its.flies (total cell w) (total cell (world_next (node_step f) w c)) (same cell) h.flies;
         stops = its.stops (total final_in w) (total final_in (world_next (node_step f) w c)) (same final_in) h.stops;
         few = its.few h.few;
@@ -88,15 +84,13 @@ module _ (F : Type 0) {R : Type 0} (f : Semantics R) (laws : Laws f) (alloc : Gl
 
   first_counted : Counted [] begin
   first_counted =
-      let all = opening_weight StrongNote begin.nodes (input_of job.packets) (weight beside) in
-      let none = none_ended job.members in
       record {
         scene = first_scene F f laws alloc job job_is;
         shows = start_shows F f laws alloc job job_is;
         holds = start_holds F f laws alloc job job_is;
-        lighter = omega (arith, all);
+        lighter = omega (arith, opening_weight StrongNote begin.nodes (input_of job.packets) (weight beside));
         flies = omega arith;
-        stops = omega (arith, none);
+        stops = omega (arith, none_ended job.members);
         few = omega arith;
       }
     where
@@ -112,11 +106,9 @@ module _ (F : Type 0) {R : Type 0} (f : Semantics R) (laws : Laws f) (alloc : Gl
   pub run_short : (cs : List Choice) → IsRun node_ready (node_step f) cs begin → length cs ≤ most_choices job
   run_short cs is =
       let two = job_is.some in
-      let lighter = (run_counted cs is).lighter in
-      let input = input_weighs beside job.packets in
       let members : 2 * beside + 6 ≡ 2 * job.members + 4 = omega (arith, two) in
       let all : (2 * beside + 6) * length job.packets ≡ (2 * job.members + 4) * length job.packets = ap (λ k. k * length job.packets) members in
-      omega (arith, lighter, input, two, all)
+      omega (arith, (run_counted cs is).lighter, input_weighs beside job.packets, two, all)
 
   -- a world in which no choice is enabled
   module _ (cs : List Choice) (is : IsRun node_ready (node_step f) cs begin) (none : enabled_choices node_ready (run (node_step f) cs begin) ≡ []) where
@@ -174,9 +166,7 @@ module _ (F : Type 0) {R : Type 0} (f : Semantics R) (laws : Laws f) (alloc : Gl
         never e = cc
     none_out (Spreads r turn left) e fit to answers =
         let zero_left = all_quiet turn n (λ k k_in. quiet_turn k (turn k) (chunk_after f job r counted.holds.serves.d) (to k k_in) (answers k k_in)) in
-        let counts = fit.counts in
-        let some = fit.some in
-        absurd (omega (arith, zero_left, counts, some))
+        absurd (omega (arith, zero_left, fit.counts, fit.some))
 
     idle : x.controller.serving ≡ Idle
     idle = counted.holds.serves.serving ∙ none_out counted.holds.serves.stage refl counted.holds.serves.fits
@@ -205,11 +195,8 @@ module _ (F : Type 0) {R : Type 0} (f : Semantics R) (laws : Laws f) (alloc : Gl
 
     rests : x.switch.window.flying ≡ 0
     rests =
-        let flies = counted.flies in
-        let cells = silent_total w world.0 silent cell in
         let light = light_input cell (λ p. refl) refl w.input input_label in
-        let queue = ap length no_queue in
-        omega (arith, flies, cells, light, queue)
+        omega (arith, counted.flies, silent_total w world.0 silent cell, light, ap length no_queue)
 
     input_empty : w.input ≡ []
     input_empty = empty_input node_ready w world.0 none (Switch x.switch) (counted.shows.switch (Switch x.switch)) takes_all
@@ -223,9 +210,7 @@ module _ (F : Type 0) {R : Type 0} (f : Semantics R) (laws : Laws f) (alloc : Gl
     no_ends : ends_left job x ≡ 0
     no_ends =
         let input = ap (weigh end_in) (sym counted.shows.input ∙ input_empty) in
-        let up = ap (weigh end_in) no_up in
-        let down = ap (weigh end_in) no_down in
-        omega (arith, input, up, down)
+        omega (arith, input, ap (weigh end_in) no_up, ap (weigh end_in) no_down)
 
     is_one : (b : Bool) → one_if b ≡ 1 → b ≡ true
     is_one true e = refl
@@ -235,21 +220,12 @@ module _ (F : Type 0) {R : Type 0} (f : Semantics R) (laws : Laws f) (alloc : Gl
     closed = let all = counted.holds.ends.closed in let gone = no_ends in is_one x.switch.window.closed (omega (arith, all, gone))
 
     ended : (k : ℕ) → k < n → (x.member k).ended ≡ true
-    ended k k_in =
-        let all = counted.holds.ends.stopped k k_in in
-        let gone = no_ends in
-        let stops = ap (weigh stop_in) (no_out k k_in) in
-        is_one (x.member k).ended (omega (arith, all, gone, stops))
+    ended k k_in = is_one (x.member k).ended (omega (arith, counted.holds.ends.stopped k k_in, no_ends, ap (weigh stop_in) (no_out k k_in)))
 
     finals : x.controller.finals ≡ x.controller.members
     finals =
-        let all = ended_all x.member n ended in
-        let stops = counted.stops in
-        let few = counted.few in
-        let light = silent_total w world.0 silent final_in in
         let unfinal = light_input final_in (λ p. refl) refl w.input input_label in
-        let members = counted.holds.labelled.members in
-        omega (arith, all, stops, few, light, unfinal, members)
+        omega (arith, ended_all x.member n ended, counted.stops, counted.few, silent_total w world.0 silent final_in, unfinal, counted.holds.labelled.members)
 
     switch_ended : node_ended {F = F} {R = R} (Switch x.switch) ≡ true
     switch_ended = let rest = (Decides-eqb x.switch.window.flying 0).1 rests in ap (λ b. b && (x.switch.window.flying == 0)) closed ∙ rest
@@ -264,8 +240,7 @@ module _ (F : Type 0) {R : Type 0} (f : Semantics R) (laws : Laws f) (alloc : Gl
     node_done zero k_in = ap node_ended (counted.shows.switch (Switch x.switch)) ∙ switch_ended
     node_done (suc zero) k_in = ap node_ended (counted.shows.controller (Switch x.switch)) ∙ controller_ended
     node_done (suc (suc k)) k_in =
-        let long = world.1 in
-        let there : k < n = omega (arith, k_in, long) in
+        let there : k < n = omega (arith, k_in, world.1) in
         let two : suc (suc k) ≡ k + 2 = omega arith in
         ap (λ i. node_ended (get_or w.nodes i (Switch x.switch))) two ∙ ap node_ended (counted.shows.member k there (Switch x.switch)) ∙ ended k there
 

@@ -55,37 +55,30 @@ module _ {F R : Type 0} (f : Semantics R) (laws : Laws f) (job : StrongJob) (job
       let there = given_there f laws job job_is p.number in
       let carry : Msg = Carry mark.Plain (record { pool = 0; packet = p }) in
       let one = all_sent cell (n + 2) 0 (instance_node (member_of job p.number)) carry (reaches_member n 0 (member_of job p.number) there) in
-      let none = none_sent final_in (n + 2) 0 (instance_node (member_of job p.number)) carry refl in
       subst (λ (did : SwitchStep). Flow (InPacket p) 0 did.sends did.node.window.flying x.controller x.member) (sym step) (record {
         falls = omega arith;
         flies = λ t t' is low. omega (arith, is, low, one);
-        stops = λ t t' is low. omega (arith, is, low, none);
+        stops = λ t t' is low. omega (arith, is, low, none_sent final_in (n + 2) 0 (instance_node (member_of job p.number)) carry refl);
         few = λ low. low;
       })
 
   input_flow : (m : Msg) → takes_in x.switch m ≡ true → in_label job m → OfInput m → SwitchFlow m
   input_flow m on label (A_packet p e) = subst SwitchFlow (sym e) (packet_flow p (subst (in_label job) e label) (ap (takes_in x.switch) (sym e) ∙ on))
   input_flow m on label (An_end e) =
-      let cells = none_sent cell (n + 2) 0 1 End refl in
-      let finals = none_sent final_in (n + 2) 0 1 End refl in
       subst SwitchFlow (sym e) (record {
         falls = omega arith;
-        flies = λ t t' is low. omega (arith, is, low, cells);
-        stops = λ t t' is low. omega (arith, is, low, finals);
+        flies = λ t t' is low. omega (arith, is, low, none_sent cell (n + 2) 0 1 End refl);
+        stops = λ t t' is low. omega (arith, is, low, none_sent final_in (n + 2) 0 1 End refl);
         few = λ low. low;
       })
 
   finish_flow : SwitchFlow Finish
   finish_flow =
-      let members = h.labelled.switch.members in
-      let costs = stops_cost o x.switch.members in
       let is = members_is in
-      let cells = stops_none cell (n + 2) 0 x.switch.members refl in
-      let finals = stops_none final_in (n + 2) 0 x.switch.members refl in
       record {
-        falls = omega (arith, costs, members, is);
-        flies = λ t t' is low. omega (arith, is, low, cells);
-        stops = λ t t' is low. omega (arith, is, low, finals);
+        falls = omega (arith, stops_cost o x.switch.members, h.labelled.switch.members, is);
+        flies = λ t t' is low. omega (arith, is, low, stops_none cell (n + 2) 0 x.switch.members refl);
+        stops = λ t t' is low. omega (arith, is, low, stops_none final_in (n + 2) 0 x.switch.members refl);
         few = λ low. low;
       }
 
@@ -105,12 +98,10 @@ module _ {F R : Type 0} (f : Semantics R) (laws : Laws f) (job : StrongJob) (job
 
   end_flow : ControllerFlow End (controller_step x.controller 0 End)
   end_flow =
-      let cells = none_sent cell (n + 2) 1 0 Finish refl in
-      let finals = none_sent final_in (n + 2) 1 0 Finish refl in
       record {
         falls = omega arith;
-        flies = λ t t' is low. omega (arith, is, low, cells);
-        stops = λ t t' is low. omega (arith, is, low, finals);
+        flies = λ t t' is low. omega (arith, is, low, none_sent cell (n + 2) 1 0 Finish refl);
+        stops = λ t t' is low. omega (arith, is, low, none_sent final_in (n + 2) 1 0 Finish refl);
         few = λ low. low;
       }
 
@@ -123,16 +114,13 @@ module _ {F R : Type 0} (f : Semantics R) (laws : Laws f) (job : StrongJob) (job
   event_flow j op c ok =
       let one : QueuedPacket = record { cell = c; member = j } in
       let state = with_event x.controller j c in
-      let costs = serve_cost o state in
       let more = weigh-append (λ (r : QueuedPacket). 2 * o + 3) x.controller.queue (one ∷ []) in
       let there = each-append (λ (r : QueuedPacket). r.member < n) x.controller.queue (one ∷ []) (raised_there x.controller.queue h.serves.queue) (ok.there, tt)
       in
-      let cells = serve_cells n state there in
-      let long = length-append x.controller.queue (one ∷ []) in
       let finals = serve_finals (n + 2) state in
       record {
-        falls = omega (arith, costs, more);
-        flies = λ t t' is low. omega (arith, is, low, cells, long);
+        falls = omega (arith, serve_cost o state, more);
+        flies = λ t t' is low. omega (arith, is, low, serve_cells n state there, length-append x.controller.queue (one ∷ []));
         stops = λ t t' is low. (let none = finals.0 in let same = finals.1 in omega (arith, is, low, none, same));
         few = λ low. (let same = finals.1 in omega (arith, low, same));
       }
@@ -146,12 +134,10 @@ module _ {F R : Type 0} (f : Semantics R) (laws : Laws f) (job : StrongJob) (job
       let does = told_does f job laws job_is x j rest op chunk j_in h first in
       let members = h.labelled.members in
       let there : j < x.controller.members = rw members j_in in
-      let costs = syncs_cost o j x.controller.members chunk there in
-      let count = members_is in
       let cells = syncs_none cell (n + 2) 1 j x.controller.members chunk (λ home. refl) in
       let finals = syncs_none final_in (n + 2) 1 j x.controller.members chunk (λ home. refl) in
       subst (λ z. ControllerFlow z (row_of_member x.controller j z)) (sym e) (subst (ControllerFlow (Shared op chunk)) (sym does) (record {
-        falls = omega (arith, costs, members, count);
+        falls = omega (arith, syncs_cost o j x.controller.members chunk there, members, members_is);
         flies = λ t t' is low. omega (arith, is, low, cells);
         stops = λ t t' is low. omega (arith, is, low, finals);
         few = λ low. low;
@@ -208,11 +194,10 @@ module _ {F R : Type 0} (f : Semantics R) (laws : Laws f) (job : StrongJob) (job
       → cell m ≤ sent_weight cell (n + 2) (j + 2) did.sends → one_if did.node.ended ≤ one_if (x.member j).ended + ended
       → final_in m + ended ≤ sent_weight final_in (n + 2) (j + 2) did.sends → MemberFlow j m did
   member_flow j j_in m did ended costs cells ends finals =
-      let one = ended_put x.member j n did.node j_in in
       record {
         falls = omega (arith, costs);
         flies = λ t t' is low. omega (arith, is, low, cells);
-        stops = λ t t' is low. omega (arith, is, low, one, ends, finals);
+        stops = λ t t' is low. omega (arith, is, low, ended_put x.member j n did.node j_in, ends, finals);
         few = λ low. low;
       }
 
@@ -223,26 +208,22 @@ module _ {F R : Type 0} (f : Semantics R) (laws : Laws f) (job : StrongJob) (job
       → is_taken job (number c) ≡ b → MemberFlow j (Carry mark.Plain c) (instance_step f (x.member j) (Carry mark.Plain c))
   plain_flow j j_in c rest is true taken =
       let step = raises f job j (x.member j) c (h.labelled.member j j_in) (matches_is f job x j j_in h c rest is true taken) in
-      let one = all_sent cell (n + 2) (j + 2) 1 (Event the_share c) (reaches_low n j 1 (omega arith)) in
       subst (MemberFlow j (Carry mark.Plain c)) (sym step) (member_flow j j_in (Carry mark.Plain c) (tell_step (x.member j) (Event the_share c)) 0 (omega arith)
-      (omega (arith, one)) (omega arith) (omega arith))
+      (omega (arith, all_sent cell (n + 2) (j + 2) 1 (Event the_share c) (reaches_low n j 1 (omega arith)))) (omega arith) (omega arith))
   plain_flow j j_in c rest is false taken =
       let step = processes f job j (x.member j) c (h.labelled.member j j_in) (matches_is f job x j j_in h c rest is false taken) in
       let leaves = plain_leaves f job (x.member j) c in
       let sends = leaves.sends in
       let one = ap (sent_weight cell (n + 2) (j + 2)) sends ∙ credit_sent j c in
-      let costs = ap (cost o) sends in
-      let ended = ap one_if leaves.ended in
       subst (MemberFlow j (Carry mark.Plain c)) (sym step) (member_flow j j_in (Carry mark.Plain c) (instance_processed f (x.member j) mark.Plain c) 0
-      (omega (arith, costs)) (omega (arith, one)) (omega (arith, ended)) (omega arith))
+      (omega (arith, ap (cost o) sends)) (omega (arith, one)) (omega (arith, ap one_if leaves.ended)) (omega arith))
 
   out_flow : (j : ℕ) (j_in : j < job.members) (m : Msg) (rest : List Msg) (is : x.out j ≡ m ∷ rest) → OfOut m → MemberFlow j m (instance_step f (x.member j) m)
   out_flow j j_in m rest is (A_plain c e) =
       subst (λ z. MemberFlow j z (instance_step f (x.member j) z)) (sym e) (plain_flow j j_in c rest (is ∙ ap (λ z. z ∷ rest) e) (is_taken job (number c)) refl)
   out_flow j j_in m rest is (A_stop e) =
-      let one = all_sent final_in (n + 2) (j + 2) 1 Final (reaches_low n j 1 (omega arith)) in
       subst (λ z. MemberFlow j z (instance_step f (x.member j) z)) (sym e) (member_flow j j_in Stop (instance_step f (x.member j) Stop) 1 (omega arith)
-      (omega arith) (omega arith) (omega (arith, one)))
+      (omega arith) (omega arith) (omega (arith, all_sent final_in (n + 2) (j + 2) 1 Final (reaches_low n j 1 (omega arith)))))
 
   to_flow : (j : ℕ) (j_in : j < job.members) (m : Msg) (rest : List Msg) (is : x.to j ≡ m ∷ rest) → Comes f laws job job_is (sight job x) h.serves j m rest
       → MemberFlow j m (instance_step f (x.member j) m)
@@ -265,11 +246,9 @@ module _ {F R : Type 0} (f : Semantics R) (laws : Laws f) (job : StrongJob) (job
   to_flow j j_in m rest is (Record_comes r at left stage going e last) =
       let there : x.to j ≡ Sync (is_home j) the_share (chunk_after f job r h.serves.d ∷ []) ∷ rest = is ∙ ap (λ z. z ∷ rest) e in
       let leaves = its_record f laws job job_is x h j j_in r at left stage going rest there last in
-      let costs = ap (cost o) leaves.sends in
-      let ended = ap one_if leaves.ended in
       subst (λ z. MemberFlow j z (instance_step f (x.member j) z)) (sym e) (member_flow j j_in (Sync (is_home j) the_share
       (chunk_after f job r h.serves.d ∷ [])) (instance_step f (x.member j) (Sync (is_home j) the_share (chunk_after f job r h.serves.d ∷ []))) 0
-      (omega (arith, costs)) (omega arith) (omega (arith, ended)) (omega arith))
+      (omega (arith, ap (cost o) leaves.sends)) (omega arith) (omega (arith, ap one_if leaves.ended)) (omega arith))
 
   -- each of them
   pub flow : (g : Goes job.members x) → Flow (message_of job.members x g) (node_of job.members x g) (sends_of f job.members x g)

@@ -31,8 +31,7 @@ above n p [] h low = refl
 above n p (q ∷ qs) h low =
     let is = h.0 in
     let off : (p == q) ≡ false = grind (arith, nat_tests, is, low) in
-    let rest = above (suc q) p qs h.1 (omega (arith, low, is)) in
-    rw off (omega (arith, rest))
+    rw off (omega (arith, above (suc q) p qs h.1 (omega (arith, low, is))))
 
 pub numbered_once : (n p : ℕ) (ns : List ℕ) → IsRising n ns → times p ns ≤ 1
 numbered_once n p [] h = omega arith
@@ -88,8 +87,7 @@ module _ {R : Type 0} (f : Semantics R) (laws : Laws f) (job : StrongJob) (job_i
         let rest = flat_map event_in (x.back k) ++ filter (is_taken_at job k) (flat_map plain_in (x.out k)) in
         let each : times p (events_of k x.log) + times p rest ≡ times p (filter (is_taken_at job k) (arrivals_in x.log)) =
         sym (times-append p (events_of k x.log) rest) ∙ ap (times p) (h.ordered.each_member k (given_there p)) in
-        let few = filter_few (is_taken_at job k) p (arrivals_in x.log) in
-        omega (arith, done, queued, by, each, few)
+        omega (arith, done, queued, by, each, filter_few (is_taken_at job k) p (arrivals_in x.log))
 
     few_others : (p : ℕ) → is_taken job p ≡ false → times p (done_numbers x.log) ≤ times p (arrivals_in x.log)
     unfolding untaken
@@ -99,15 +97,12 @@ module _ {R : Type 0} (f : Semantics R) (laws : Laws f) (job : StrongJob) (job_i
         let plains = filter untaken (flat_map plain_in (x.out 0)) in
         let each : times p (filter untaken (done_numbers x.log)) + times p plains
         ≡ times p (filter untaken (arrivals_in x.log)) = sym (times-append p (filter untaken (done_numbers x.log)) plains) ∙ ap (times p) h.ordered.others in
-        let few = filter_few untaken p (arrivals_in x.log) in
-        omega (arith, done, each, few)
+        omega (arith, done, each, filter_few untaken p (arrivals_in x.log))
 
     came_once : (p : ℕ) → times p (arrivals_in x.log) ≤ 1
     came_once p =
-        let turn = ap (times p) h.ordered.in_turn in
-        let more = times-append p (arrivals_in x.log) (flat_map packet_in x.input) in
         let all = numbered_once 1 p (numbers_of job) (one_by_one 1 job.packets job_is.numbers) in
-        omega (arith, turn, more, all)
+        omega (arith, ap (times p) h.ordered.in_turn, times-append p (arrivals_in x.log) (flat_map packet_in x.input), all)
 
     once : (p : ℕ) → times p (done_numbers x.log) ≤ 1
     once p = elim (is_taken job p) as (λ b. is_taken job p ≡ b → times p (done_numbers x.log) ≤ 1) [
@@ -266,8 +261,7 @@ module _ {R : Type 0} (f : Semantics R) (laws : Laws f) (job : StrongJob) (job_i
 
       there : (k : ℕ) → k < job.members → slice_get w.nodes (k + 2) ≡ Some (Instance (x.member k))
       there k k_in =
-          let count = shows.count in
-          slice_get-get_or w.nodes (k + 2) (Instance (x.member k)) (omega (arith, count, k_in)) ∙ ap Some (shows.member k k_in (Instance (x.member k)))
+          slice_get-get_or w.nodes (k + 2) (Instance (x.member k)) (omega (arith, shows.count, k_in)) ∙ ap Some (shows.member k k_in (Instance (x.member k)))
 
       live_is : (u : units.Unit) (k : ℕ) → k < job.members → live_at w k u ≡ (if k == 0 then fold f job None (processed_of f job u x.log) else None)
       live_is u k k_in =
@@ -283,22 +277,17 @@ module _ {R : Type 0} (f : Semantics R) (laws : Laws f) (job : StrongJob) (job_i
 
       -- the switch has closed: no cell is out
       closed : has_closed x.switch ≡ true
-      closed =
-          let count = shows.count in
-          sym (ap node_ended (shows.switch (Switch x.switch))) ∙ done_node node_ended w done 0 (Switch x.switch) (omega (arith, count))
+      closed = sym (ap node_ended (shows.switch (Switch x.switch))) ∙ done_node node_ended w done 0 (Switch x.switch) (omega (arith, shows.count))
 
       home_is : x.switch.window.pool.home ≡ job.window
       home_is =
           let rests = (and_parts x.switch.window.closed (x.switch.window.flying == 0) closed).1 in
           let none : x.switch.window.flying ≡ 0 = (Decides-eqb x.switch.window.flying 0).0 rests in
-          let all = h.labelled.switch.balanced in
-          let cells = h.labelled.switch.cells in
-          omega (arith, none, all, cells)
+          omega (arith, none, h.labelled.switch.balanced, h.labelled.switch.cells)
 
       all_home : cells_at_home w ≡ Some job.window
       all_home =
-          let count = shows.count in
-          ap home_in (slice_get-get_or w.nodes 0 (Switch x.switch) (omega (arith, count)) ∙ ap Some (shows.switch (Switch x.switch))) ∙ ap Some home_is
+          ap home_in (slice_get-get_or w.nodes 0 (Switch x.switch) (omega (arith, shows.count)) ∙ ap Some (shows.switch (Switch x.switch))) ∙ ap Some home_is
 
       pub completed : StrongCompleted f job w
       completed = record {

@@ -104,13 +104,12 @@ module _ {R : Type 0} (f : Semantics R) (laws : Laws f) (job : StrongJob) (is : 
   takes_record o h j j_in r at left stage going to to_is own other own_is other_is =
       let fit : FitsSpread f job r at left = subst (FitsStage f job) stage h.fits in
       let p = raised_number r in
-      let one = pending_put at j job.members Coming j_in in
       let was : one_if (is_pending (at j)) ≡ 1 = ap (λ t. one_if (is_pending t)) going in
       let counts = fit.counts in
       record {
         d = h.d;
         stage = Spreads r (put at j Coming) left;
-        fits = record { raised = fit.raised; counts = omega (arith, one, was, counts); some = fit.some };
+        fits = record { raised = fit.raised; counts = omega (arith, pending_put at j job.members Coming j_in, was, counts); some = fit.some };
         serving = h.serving ∙ ap (serving_of f job) stage;
         to = λ k k_in. to_is k k_in ∙ ap (λ z. if k == j then [] else z) (h.to k k_in ∙ ap (λ s. to_of f job s h.d k) stage)
             ∙ elim (k == j) as (λ b. (if b then [] else goes_to f job (at k) k (chunk_after f job r h.d))

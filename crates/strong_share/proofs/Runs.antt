@@ -34,8 +34,7 @@ module _ (F : Type 0) {R : Type 0} (f : Semantics R) (laws : Laws f) (alloc : Gl
         let few = job_is.few in
         let each : 2 * job.members + 4 ≤ 36 = omega (arith, few) in
         let all : (2 * job.members + 4) * length job.packets ≤ 36 * 1000000 = mul-le-mul each many in
-        let short = run_short F f laws alloc job job_is cs is in
-        omega (arith, short, all, few)
+        omega (arith, run_short F f laws alloc job job_is cs is, all, few)
 
   -- a schedule that stops short took all choices that it may take
   pub too_many : (schedule : Schedule) (step : ℕ) → length (choices_of f first schedule) ≡ step
@@ -55,6 +54,4 @@ module _ (F : Type 0) {R : Type 0} (f : Semantics R) (laws : Laws f) (alloc : Gl
       by true e = (Decides-ltb most_packets (length job.packets)).0 e
       by false e =
           let many : length job.packets ≤ most_packets = grind (arith, nat_tests, e) in
-          let few = few_choices (choices_of f first schedule) runs many in
-          let all = all_taken in
-          absurd (omega (arith, few, all, count))
+          absurd (omega (arith, few_choices (choices_of f first schedule) runs many, all_taken, count))

@@ -51,12 +51,10 @@ module _ {R : Type 0} (f : Semantics R) (laws : Laws f) (job : StrongJob) (is : 
       let r = told.raised in
       let stage = told.stage_is in
       let fit : IsRaised job r = subst (FitsStage f job) stage h.fits in
-      let members = is.some in
-      let count = pending_all_but r.member job.members fit.there in
       record {
         d = h.d;
         stage = Spreads r (all_but r.member) (job.members - 1);
-        fits = record { raised = fit; counts = omega (arith, count); some = omega (arith, members) };
+        fits = record { raised = fit; counts = omega (arith, pending_all_but r.member job.members fit.there); some = omega (arith, is.some) };
         serving = refl;
         to = λ k k_in. ap (λ z. z ++ spread_to j chunk k) (h.to k k_in ∙ ap (λ s. to_of f job s h.d k) stage) ∙ goes k;
         answers = λ k k_in. answers_is k k_in ∙ comes k k_in;
@@ -131,10 +129,8 @@ module _ {R : Type 0} (f : Semantics R) (laws : Laws f) (job : StrongJob) (is : 
 
     counted : pending quiet job.members + 1 ≡ took.left
     counted =
-        let one = pending_put took.at j job.members Quiet j_in in
         let was : one_if (is_pending (took.at j)) ≡ 1 = ap (λ t. one_if (is_pending t)) took.turn_is in
-        let counts = fit.counts in
-        omega (arith, one, was, counts)
+        omega (arith, pending_put took.at j job.members Quiet j_in, was, fit.counts)
 
     turned : {X : Type 0} (on : Turn → X) (k : ℕ) → on Coming ≡ on Quiet → on (took.at k) ≡ on (quiet k)
     turned on k same = elim (k == j) as (λ b. (k == j) ≡ b → on (took.at k) ≡ on (if b then Quiet else took.at k)) [

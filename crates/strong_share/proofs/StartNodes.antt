@@ -10,7 +10,5 @@ length-first_members F R alloc job n = length-map-range_with_len (λ i. Instance
 pub few_nodes : {F R : Type 0} (kind : Kind) (alloc : Global) (job : StrongJob) (nodes : List (StrongNode F R)) → IsStrongJob kind job
     → nodes ≡ first_nodes alloc job → (0 < length nodes) × (length nodes < 256)
 few_nodes {F = F} {R = R} kind alloc job nodes is same =
-    let count = length-first_members F R alloc job job.members in
-    let few = is.few in
     let all = ap length same in
-    (omega (arith, all), omega (arith, all, count, few))
+    (omega (arith, all), omega (arith, all, length-first_members F R alloc job job.members, is.few))

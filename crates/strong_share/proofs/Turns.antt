@@ -9,8 +9,7 @@ module _ {X : Type 0} (test : X → Bool) (g : ℕ → X) (j : ℕ) (y : X) wher
   count_over zero over = refl
   count_over (suc k) over =
       let other : (k == j) ≡ false = grind (arith, nat_tests, over) in
-      let rest = count_over k (omega (arith, over)) in
-      rw (rest, other) refl
+      rw (count_over k (omega (arith, over)), other) refl
 
   pub count_put : (n : ℕ) → j < n
       → count_below (λ k. test (put g j y k)) n + one_if (test (g j)) ≡ count_below (λ k. test (g k)) n + one_if (test y)
@@ -20,13 +19,11 @@ module _ {X : Type 0} (test : X → Bool) (g : ℕ → X) (j : ℕ) (y : X) wher
       ≡ count_below (λ i. test (g i)) k + one_if (test (g k)) + one_if (test y)) [
         | true ↦ λ on.
             let same : k ≡ j = (Decides-eqb k j).0 on in
-            let rest = count_over k (omega (arith, same)) in
             let here : one_if (test (g k)) ≡ one_if (test (g j)) = ap (λ i. one_if (test (g i))) same in
-            omega (arith, rest, here)
+            omega (arith, count_over k (omega (arith, same)), here)
         | false ↦ λ off.
             let apart : j < k = grind (arith, nat_tests, there, off) in
-            let rest = count_put k apart in
-            omega (arith, rest)
+            omega (arith, count_put k apart)
       ] refl
 
 -- a turn that changes
@@ -55,8 +52,7 @@ all_pending : (m n : ℕ) → n ≤ m → pending (all_but m) n ≡ n
 all_pending m zero over = refl
 all_pending m (suc k) over =
     let other : (k == m) ≡ false = grind (arith, nat_tests, over) in
-    let rest = all_pending m k (omega (arith, over)) in
-    rw other (omega (arith, rest))
+    rw other (omega (arith, all_pending m k (omega (arith, over))))
 
 pub pending_all_but : (m n : ℕ) → m < n → pending (all_but m) n + 1 ≡ n
 pending_all_but m zero there = absurd (omega arith)

@@ -73,9 +73,8 @@ reaches_member n k i there =
 
 pub reaches_low : (n j r : ℕ) → r < n + 2 → reaches (n + 2) (j + 2) r ≡ true
 reaches_low n j r there =
-    let low = (Decides-ltb r (n + 2)).1 there in
     let far : (j + 2 == 0) ≡ false = two_zero j in
-    rw (low, far) refl
+    rw ((Decides-ltb r (n + 2)).1 there, far) refl
 
 -- the stops
 pub stops_cost : (o n : ℕ) → cost o (stop_messages n) ≡ 2 * n
@@ -101,10 +100,9 @@ more_cost o m k chunk =
 syncs_over : (o m n : ℕ) (chunk : Chunk) → n ≤ m → cost o (syncs n m chunk) ≡ 2 * n
 syncs_over o m zero chunk over = omega arith
 syncs_over o m (suc k) chunk over =
-    let rest = syncs_over o m k chunk (omega (arith, over)) in
     let other : (k == m) ≡ false = grind (arith, nat_tests, over) in
     let one = more_cost o m k chunk ∙ ap (λ b. cost o (syncs k m chunk) + (if b then 0 else 2)) other in
-    omega (arith, rest, one)
+    omega (arith, syncs_over o m k chunk (omega (arith, over)), one)
 
 pub syncs_cost : (o m n : ℕ) (chunk : Chunk) → m < n → cost o (syncs n m chunk) + 2 ≡ 2 * n
 syncs_cost o m zero chunk there = absurd (omega arith)
@@ -113,24 +111,20 @@ syncs_cost o m (suc k) chunk there =
     elim (k == m) as (λ b. (k == m) ≡ b → cost o (syncs (suc k) m chunk) + 2 ≡ 2 * suc k) [
       | true ↦ λ on.
           let same : k ≡ m = (Decides-eqb k m).0 on in
-          let rest = syncs_over o m k chunk (omega (arith, same)) in
           let one = ap {B = ℕ} (λ b. if b then 0 else 2) on in
-          omega (arith, rest, more, one)
+          omega (arith, syncs_over o m k chunk (omega (arith, same)), more, one)
       | false ↦ λ off.
           let less : m < k = grind (arith, nat_tests, there, off) in
-          let rest = syncs_cost o m k chunk less in
           let one = ap {B = ℕ} (λ b. if b then 0 else 2) off in
-          omega (arith, rest, more, one)
+          omega (arith, syncs_cost o m k chunk less, more, one)
     ] refl
 
 pub syncs_none : (g : Msg → ℕ) (n k m i : ℕ) (chunk : Chunk) → ((home : Bool) → g (Sync home the_share (chunk ∷ [])) ≡ 0)
     → sent_weight g n k (syncs i m chunk) ≡ 0
 syncs_none g n k m zero chunk e = omega arith
 syncs_none g n k m (suc i) chunk e =
-    let rest = syncs_none g n k m i chunk e in
-    let one = to_one (i == m) in
     let both = ap (sent_weight g n k) (syncs_more i m chunk) ∙ sent_weight-append g n k (syncs i m chunk) (sync_of m chunk i) in
-    omega (arith, rest, one, both)
+    omega (arith, syncs_none g n k m i chunk e, to_one (i == m), both)
   where
     to_one : (b : Bool) → sent_weight g n k (if b then [] else sync_to chunk i ∷ []) ≡ 0
     to_one true = refl

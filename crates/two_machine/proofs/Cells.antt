@@ -59,12 +59,9 @@ module _ {U T C R O : Type 0} (S : System U T C R O) where
       let first = ctrl_row S c port m in
       let next = soon_at S first.node.phase first.node in
       let last = finishes S next.node in
-      let one = row_keeps (row S c port m) in
-      let two = row_keeps (soon_row S first.node first.node.phase refl) in
       let three = finish_keeps (finish_row S next.node) in
       let sent_first = sent_cells first.sends (next.sends ++ last.sends) in
-      let sent_next = sent_cells next.sends last.sends in
-      omega (arith, one, two, three, sent_first, sent_next)
+      omega (arith, row_keeps (row S c port m), row_keeps (soon_row S first.node first.node.phase refl), three, sent_first, sent_cells next.sends last.sends)
 
   -- what a step of the switch, of A and of B does to the cells that it counts and holds: n come with its message
   abbrev SwitchKeeps : Switch → Step S Switch → ℕ → Type 0

@@ -81,9 +81,7 @@ module _ {U T C R O : Type 0} (S : System U T C R O) where
   closing_keeps Cb v (Restore c) rest l h = same_close S (simp reads) h
   closing_keeps Cb v Fence rest l h =
       let quiet = all_quiet 1 (record v.b { rule = Free; held = [] }) v.b.held in
-      let none = quiet.0 in
-      let stays = quiet.1 in
-      same_close S (simp (reads, none, stays)) h
+      same_close S (simp (reads, quiet.0, quiet.1)) h
   closing_keeps Sc v Start rest l h = heard (record v { sc = rest }) 0 Start tt (same_close S refl h)
   closing_keeps Sc v End rest l h = heard (record v { sc = rest }) 0 End tt (same_close S refl h)
   closing_keeps Sc v (Copied p) rest l h = heard (record v { sc = rest }) 0 (Copied p) tt (same_close S refl h)

@@ -90,13 +90,8 @@ module _ {U T C R O : Type 0} (S : System U T C R O) where
       by true e =
           let same = says_no_more h.at e in
           let quiet = ok.if_done (ap (λ x. x.finished) h.is ∙ e) (ap (λ x. x.over) h.is ∙ same.1) in
-          let finished = quiet.0 in
-          let over = quiet.1 in
-          let none = quiet.2 in
-          record { at = h.at; is = does ∙ rw (finished, over, none) same.0 }
+          record { at = h.at; is = does ∙ rw (quiet.0, quiet.1, quiet.2) same.0 }
       by false e =
           let first = says_first h.at (is_at_end S did.node) e in
           let once = ok.if_not (ap (λ x. x.finished) h.is ∙ e) in
-          let finished = once.0 in
-          let one = once.1 in
-          record { at = first.0; is = does ∙ rw (finished, one) first.1 }
+          record { at = first.0; is = does ∙ rw (once.0, once.1) first.1 }

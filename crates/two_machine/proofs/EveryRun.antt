@@ -18,9 +18,8 @@ use Rattle.two_machine.proofs.Starts.{every_run}
 times_below : (p n : ℕ) (xs : List ℕ) → p ≤ n → Rises n xs → times p xs ≡ 0
 times_below p n [] less h = refl
 times_below p n (x ∷ xs) less h =
-    let rest = times_below p x xs (omega (arith, less, h.0)) h.1 in
     let other : (p == x) ≡ false = grind (arith, nat_tests, less, h.0) in
-    rw other (omega (arith, rest))
+    rw other (omega (arith, times_below p x xs (omega (arith, less, h.0)) h.1))
 
 times_once : (p n : ℕ) (xs : List ℕ) → Rises n xs → times p xs ≤ 1
 times_once p n [] h = omega arith
@@ -71,7 +70,6 @@ module _ {U T C R O : Type 0} (S : System U T C R O) (laws : Laws S) (window : �
 
   pub facts_taken : {n : ℕ} (its : S.takes u ≡ true) (w : Network (Node T C) (Msg C) (Note O)) → WithRight its n w → UnitFacts w
   facts_taken its w r =
-      let here = r.is in
       let v = r.world in
       let h = r.holds in
       let dones : done h.stage ≡ those S.covers (read ran v.log) = done_is (frame S (Of_unit u)) h.stage ∙ sym (ap (λ x. x.done) h.alike) in
@@ -81,7 +79,7 @@ module _ {U T C R O : Type 0} (S : System U T C R O) (laws : Laws S) (window : �
       ∙ ap (those (mine S laws u)) h.order
       ∙ own_those S laws u its (read arrived v.log)
       in
-      rw here
+      rw r.is
       (record {
         front = front_from v.log (read coming v.input) (those (mine S laws u) (path h.stage)) order h.arrivals_are;
         answers = r.more;
@@ -89,9 +87,8 @@ module _ {U T C R O : Type 0} (S : System U T C R O) (laws : Laws S) (window : �
 
   pub facts_untaken : {n : ℕ} (not_its : S.takes u ≡ false) (w : Network (Node T C) (Msg C) (Note O)) → WithStays not_its n w → UnitFacts w
   facts_untaken not_its w r =
-      let here = r.is in
       let v = r.world in
-      rw here
+      rw r.is
       (record {
         front = front_from v.log (read coming v.input) (those (mine S laws u) (read carries v.sa)) r.more.order r.holds.arrivals_are;
         answers = r.more.right;
@@ -111,12 +108,10 @@ module _ {U T C R O : Type 0} (S : System U T C R O) (laws : Laws S) (window : �
       let u = S.unit_of p in
       let own = laws.itself u in
       let front = facts.front in
-      let left = times_filter (mine S laws u) p own (processed w.log) in
-      let right = times_filter (mine S laws u) p own (early ++ late) in
       let part = times-append p (of_unit S u (processed w.log)) front.rest in
       let whole = ap (times p) front.whole in
       let one = times_once p 0 (early ++ late) rises in
-      omega (arith, left, right, part, whole, one)
+      omega (arith, times_filter (mine S laws u) p own (processed w.log), times_filter (mine S laws u) p own (early ++ late), part, whole, one)
 
   -- what every run keeps
   pub every : (cs : List Choice) (w : Network (Node T C) (Msg C) (Note O)) → LeadsTo S window early late cs w → Every S window early late w

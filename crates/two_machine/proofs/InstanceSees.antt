@@ -77,12 +77,10 @@ module _ {U T C R O : Type 0} (S : System U T C R O) (laws : Laws S) (o : Observ
       ≡ (let x = view S o (record v { b = i }) in record x { b = record x.b { live = folded (frame S o) x.b.live ps }; done = x.done ++ ps })
   all_at_b v [] i h = simp reads
   all_at_b v (p ∷ ps) i h =
-      let covers = h.0 in
-      let owned = own_processed o i.table p in
       let one = processed S 1 i p in
       let next = put_b S (record v { b = i }) one in
       let same : put_b S v (all_processed S 1 i (p ∷ ps)) ≡ put_b S next (all_processed S 1 one.node ps) = simp (flat_map-append, append_assoc) in
-      ap (view S o) same ∙ all_at_b next ps one.node h.1 ∙ simp (reads, owned, covers)
+      ap (view S o) same ∙ all_at_b next ps one.node h.1 ∙ simp (reads, own_processed o i.table p, h.0)
 
   pub fence_b : (v : World T C O) → Each (λ p. S.covers p ≡ true) v.b.held → view S o (put_b S v (on_fence S 1 v.b)) ≡ m.told_b (frame S o) (view S o v) m.Fence
   fence_b v h =
@@ -110,8 +108,7 @@ module _ {U T C R O : Type 0} (S : System U T C R O) (laws : Laws S) (o : Observ
   pub delete_a : (v : World T C O) (c : C) → IsSelected S c
       → view S o (put_a S v (inst_step S 0 v.a (t.Delete c))) ≡ m.told_a (frame S o) (view S o v) (m.Delete (inside S o c))
   delete_a v c is =
-      let owned = own_deleted o c is v.a.table in
-      let first : view S o (put_a S v (inst_step S 0 v.a (t.Delete c))) ≡ without (inside S o c) = simp (reads, owned) in
+      let first : view S o (put_a S v (inst_step S 0 v.a (t.Delete c))) ≡ without (inside S o c) = simp (reads, own_deleted o c is v.a.table) in
       first ∙ by (inside S o c)
     where
       without : Option R → State R

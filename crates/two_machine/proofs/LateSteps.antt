@@ -134,8 +134,7 @@ module _ {R : Type 0} (f : Frame R) where
   is_empty d v z x g e l c h y k w last none rises =
       let ends : last_or None (to_list c.last ++ c.coming) ≡ Some v = rw (last, none) refl in
       let is_last = w.last v ends in
-      let is = w.joined in
-      let whole : d ++ ((x ++ (g ++ (e ++ l))) ++ (h ++ y)) ≡ w.front ++ ((v ∷ (z ++ (x ++ (g ++ (e ++ l))))) ++ (h ++ y)) = rw (← is) (simp paths) in
+      let whole : d ++ ((x ++ (g ++ (e ++ l))) ++ (h ++ y)) ≡ w.front ++ ((v ∷ (z ++ (x ++ (g ++ (e ++ l))))) ++ (h ++ y)) = rw (← w.joined) (simp paths) in
       let later = rises_after k w.front ((v ∷ (z ++ (x ++ (g ++ (e ++ l))))) ++ (h ++ y)) (rw whole at rises) in
       only_one later.0 v (z ++ (x ++ (g ++ (e ++ l)))) (rises_front later.0 (v ∷ (z ++ (x ++ (g ++ (e ++ l))))) (h ++ y) later.1) is_last
 
@@ -149,15 +148,12 @@ module _ {R : Type 0} (f : Frame R) where
       let two = both s t is in
       let seen = two.one in
       let none = is_empty d two.number z x g e l (copying t []) h y k (subst (λ o. Follows d (old o z x g e l) (copying t [])) seen w) two.two refl rises in
-      let z_is = append_nil_left z (x ++ (g ++ (e ++ l))) none in
       let xs = append_nil_right z (x ++ (g ++ (e ++ l))) none in
-      let x_is = append_nil_left x (g ++ (e ++ l)) xs in
       let gs = append_nil_right x (g ++ (e ++ l)) xs in
-      let g_is = append_nil_left g (e ++ l) gs in
       let es = append_nil_right g (e ++ l) gs in
       let e_is = append_nil_left e l es in
       let l_is = append_nil_right e l es in
-      rw (z_is, x_is, g_is, e_is, l_is) (record {
+      rw (append_nil_left z (x ++ (g ++ (e ++ l))) none, append_nil_left x (g ++ (e ++ l)) xs, append_nil_left g (e ++ l) gs, e_is, l_is) (record {
         next = Ends Fence_goes d t s h y b;
         fits = tt;
         alike = rw is refl;

@@ -63,13 +63,9 @@ module _ {R : Type 0} (f : Frame R) where
   waits_there (Turned High_comes d o z x g e l t c h y b) w k = let no_message = append_nil_right (copies c) (m.Laid true ∷ []) k.sc in cc
   waits_there (Turned Settles d o z x g e l t c h y b) w k =
       let none = w.own.0 in
-      let z_is = k.seens in
-      let x_is = k.passes in
       let g_is = k.forwards in
-      let e_is = k.events in
-      let l_is = k.sa in
       let last : (v : ℕ) → last_or None (to_list t ++ []) ≡ Some v → last_or None (to_list o ++ []) ≡ Some v = λ v is.
-      let whole : (to_list o ++ z) ++ (x ++ (g ++ (e ++ l))) ≡ to_list o ++ [] = rw (z_is, x_is, g_is, e_is, l_is) (append-nil (to_list o ++ [])) in
+      let whole : (to_list o ++ z) ++ (x ++ (g ++ (e ++ l))) ≡ to_list o ++ [] = rw (k.seens, k.passes, g_is, k.events, k.sa) (append-nil (to_list o ++ [])) in
       ap (λ xs. last_or None xs) (sym whole) ∙ w.follows.last v (ap (λ xs. last_or None (to_list t ++ xs)) none ∙ is)
       in
       absurd (false≢true (sym w.own.1 ∙ settled o t w.own.2 last))

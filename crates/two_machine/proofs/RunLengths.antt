@@ -35,9 +35,8 @@ module _ {U T C R O : Type 0} (S : System U T C R O) where
     pub nobody_run : (cs : List Choice) → IsRun (node_ready S) (node_step S) cs (start S window early late)
         → Reached S laws Nobody tt (early ++ late) rises Counted (length cs + 0) (run (node_step S) cs (start S window early late))
     nobody_run cs is =
-        let input = input_weight early late in
         every_run S laws Nobody tt window early late rises Counted goes
-        (record { counts = record { flying = refl; window_is = refl }; short = omega (arith, input) }) cs is
+        (record { counts = record { flying = refl; window_is = refl }; short = omega (arith, input_weight early late) }) cs is
 
     -- no run has more than eight choices for a packet, and 26
     pub bound : (cs : List Choice) → IsRun (node_ready S) (node_step S) cs (start S window early late) → length cs ≤ 8 * length (early ++ late) + 26

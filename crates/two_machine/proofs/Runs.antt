@@ -44,17 +44,13 @@ module _ {U T C R O : Type 0} (S : System U T C R O) where
     -- the packets of a stage rise, and the filter matches those that wait
     pub in_order : (v : World T C O) (h : Holds v) → Rises 0 (done h.stage ++ path h.stage)
     in_order v h =
-        let is = h.order in
-        let are = h.arrivals_are in
-        let front : Rises 0 (read arrived v.log) = rises_front 0 (read arrived v.log) (read coming v.input) (rw are rises) in
-        rw is (rises_those 0 (read arrived v.log) front)
+        let front : Rises 0 (read arrived v.log) = rises_front 0 (read arrived v.log) (read coming v.input) (rw h.arrivals_are rises) in
+        rw h.order (rises_those 0 (read arrived v.log) front)
 
     pub known : (v : World T C O) (h : Holds v) → Knows (λ p. S.covers p ≡ true) (view S o v)
     known v h =
-        let is = h.order in
-        let alike = h.alike in
-        let each : Each (λ p. S.covers p ≡ true) (done h.stage ++ path h.stage) = rw is (each_those S.covers (read arrived v.log)) in
-        rw alike (knows (frame S o) (λ p. S.covers p ≡ true) h.stage (each_after (λ p. S.covers p ≡ true) (done h.stage) (path h.stage) each))
+        let each : Each (λ p. S.covers p ≡ true) (done h.stage ++ path h.stage) = rw h.order (each_those S.covers (read arrived v.log)) in
+        rw h.alike (knows (frame S o) (λ p. S.covers p ≡ true) h.stage (each_after (λ p. S.covers p ≡ true) (done h.stage) (path h.stage) each))
 
     -- what a message needs of the input and its end
     permits : (pl : Place) (v : World T C O) (x : Msg C) (rest : List (Msg C)) → Ready S pl v x → Label S pl x → Labels S (with_waits S pl rest v)

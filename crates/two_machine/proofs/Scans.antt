@@ -98,8 +98,7 @@ module _ {U T C R O : Type 0} (S : System U T C R O) where
   pub low_before_high : (log : List (Note O)) → is_wrong (scans S No_low log) ≡ false → (before after : List (Note O)) → log ≡ before ++ High ∷ after
       → has_come S.covers (after_low before) ≡ true
   low_before_high log right before after is =
-      let whole = fold-append (scan_note S) No_low before (High ∷ after) in
-      let was = before_high (scans S No_low before) after (rw (is, whole) at right) in
+      let was = before_high (scans S No_low before) after (rw (is, fold-append (scan_note S) No_low before (High ∷ after)) at right) in
       sym (from_start before (rw was refl)) ∙ ap came_by was
 
   same_after : (t s : Scan) (b : Bool) (ns : List (Note O)) → is_wrong (scans S (if b then t else s) ns) ≡ false → verdicts_by {O = O} s ≡ verdicts_by t

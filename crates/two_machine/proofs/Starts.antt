@@ -73,9 +73,6 @@ module _ {U T C R O : Type 0} (S : System U T C R O) where
 
     pub first_holds : Holds S laws o its (early ++ late) rises (first_world window early late)
     first_holds =
-        let begins = all_starts early late in
-        let empty = own_empty o in
-        let chunks = inside_none S laws o in
         record {
           labels = record { standing = first_label; kept = (S.empty, refl) };
           end_at = In_input_still (all_last early late) tt refl;
@@ -83,7 +80,7 @@ module _ {U T C R O : Type 0} (S : System U T C R O) where
           arrivals_are = all_coming early late;
           stage = Before Not_begun [] [] false;
           fits = tt;
-          alike = rw (begins, empty, chunks) refl;
+          alike = rw (all_starts early late, own_empty o, inside_none S laws o) refl;
           order = refl;
         }
       where

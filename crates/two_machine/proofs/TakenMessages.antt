@@ -50,19 +50,15 @@ module _ {U T C R O : Type 0} (S : System U T C R O) where
   finds v (suc (suc (suc zero))) zero on = by_link v Sb (Is_inst 1 v.b) v.sb refl on (λ _. tt)
   finds v (suc (suc (suc zero))) (suc zero) on = by_link v Cb (Is_inst 1 v.b) v.cb refl on (λ _. tt)
   finds v zero (suc (suc (suc (suc p)))) on =
-      let no_link = far p in
       let port = not_zero p in
       nothing v 0 (suc (suc (suc (suc p)))) (Is_switch v.sw) (queue_at (net v) (record { node = 0; port = suc (suc (suc (suc p))) }))
-      (rw (port, no_link) refl) on
+      (rw (port, far p) refl) on
   finds v (suc zero) (suc (suc (suc (suc p)))) on =
-      let no_link = far p in
-      nothing v 1 (suc (suc (suc (suc p)))) (Is_ctrl v.ct) (queue_at (net v) (record { node = 1; port = suc (suc (suc (suc p))) })) (rw no_link refl) on
+      nothing v 1 (suc (suc (suc (suc p)))) (Is_ctrl v.ct) (queue_at (net v) (record { node = 1; port = suc (suc (suc (suc p))) })) (rw (far p) refl) on
   finds v (suc (suc zero)) (suc (suc (suc (suc p)))) on =
-      let no_link = far p in
-      nothing v 2 (suc (suc (suc (suc p)))) (Is_inst 0 v.a) (queue_at (net v) (record { node = 2; port = suc (suc (suc (suc p))) })) (rw no_link refl) on
+      nothing v 2 (suc (suc (suc (suc p)))) (Is_inst 0 v.a) (queue_at (net v) (record { node = 2; port = suc (suc (suc (suc p))) })) (rw (far p) refl) on
   finds v (suc (suc (suc zero))) (suc (suc (suc (suc p)))) on =
-      let no_link = far p in
-      nothing v 3 (suc (suc (suc (suc p)))) (Is_inst 1 v.b) (queue_at (net v) (record { node = 3; port = suc (suc (suc (suc p))) })) (rw no_link refl) on
+      nothing v 3 (suc (suc (suc (suc p)))) (Is_inst 1 v.b) (queue_at (net v) (record { node = 3; port = suc (suc (suc (suc p))) })) (rw (far p) refl) on
   finds v x p on = absurd (false≢true on)
 
   -- the labels of what is taken, and of what is left

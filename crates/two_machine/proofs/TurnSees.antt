@@ -69,9 +69,7 @@ module _ {U T C R O : Type 0} (S : System U T C R O) (laws : Laws S) (o : Observ
   turn In v (In_packet p) rest h k a = packet_turn v p rest a (S.covers p) refl
   turn In v In_start rest h k a =
       let none = k.starts 0 (read starts rest ++ read starts v.sc) refl in
-      let one = append_nil_left (read starts rest) (read starts v.sc) none in
-      let two = append_nil_right (read starts rest) (read starts v.sc) none in
-      turns None (simp (reads, one, two)) tt refl
+      turns None (simp (reads, append_nil_left (read starts rest) (read starts v.sc) none, append_nil_right (read starts rest) (read starts v.sc) none)) tt refl
   turn In v In_end rest h k a = turns None (end_s S laws o taken (record v { input = rest })) tt refl
   turn Cs v (Forward p) rest h k a = turns (Some Take_forward) (forward_s S laws o taken (record v { cs = rest }) p) tt refl
   turn Cs v (Lay high) rest h k a = turns (Some Take_cs) (lay_s S laws o taken (record v { cs = rest }) high) tt refl

@@ -87,9 +87,7 @@ module _ {U T C R O : Type 0} (S : System U T C R O) (laws : Laws S) (u : U) (no
   stays_ca v (Enable r) rest l h = quietly [] refl refl refl refl refl refl h
   stays_ca v Get rest l h = quietly [] refl refl refl refl refl refl h
   stays_ca v (Delete c) rest l h =
-      let made = l.1 in
-      let none = no_chunk l.0 in
-      let kept : S.at (S.delete c v.a.table) u ≡ S.at v.a.table u = rw made (laws.deleted v.a.table l.0 u ∙ rw none refl) in
+      let kept : S.at (S.delete c v.a.table) u ≡ S.at v.a.table u = rw l.1 (laws.deleted v.a.table l.0 u ∙ rw (no_chunk l.0) refl) in
       quietly [] refl refl refl kept refl refl h
   stays_ca v x rest l h = absurd l
 
@@ -147,8 +145,7 @@ module _ {U T C R O : Type 0} (S : System U T C R O) (laws : Laws S) (u : U) (no
       → Stays (record v { cb = x ∷ rest }) → Stays (put_b S (record v { cb = rest }) (inst_step S 1 v.b x))
   stays_cb v (Enable r) rest l k h = quietly [] refl refl refl refl refl refl h
   stays_cb v (Restore c) rest l k h =
-      let made = l.1 in
-      let kept : S.at (S.restore c v.b.table) u ≡ S.at v.b.table u = rw made (laws.untouched v.b.table l.0 u (no_chunk l.0)) in
+      let kept : S.at (S.restore c v.b.table) u ≡ S.at v.b.table u = rw l.1 (laws.untouched v.b.table l.0 u (no_chunk l.0)) in
       quietly [] refl refl refl refl kept refl h
   stays_cb v Fence rest l k h =
       let others = each_other S laws u not_its v.b.held k.held in
@@ -182,8 +179,7 @@ module _ {U T C R O : Type 0} (S : System U T C R O) (laws : Laws S) (u : U) (no
       by To_a b a right more rans came = record { a_is = h.a_is ∙ a; b_is = h.b_is; order = more; right = right }
       by To_both b a right more rans came = record { a_is = h.a_is ∙ a; b_is = h.b_is; order = more; right = right }
       by To_b b a right more rans came =
-          let other = b refl in
-          let none : own (p ∷ []) ≡ [] = rw other refl in
+          let none : own (p ∷ []) ≡ [] = rw (b refl) refl in
           record {
             a_is = h.a_is ∙ a;
             b_is = h.b_is;

@@ -11,10 +11,7 @@ module _ {U T C R O : Type 0} (S : System U T C R O) where
   -- a step at each node, with what it may weigh
   pub ctrl_less : (v : World T C O) (did : Step S (Ctrl C)) (n : ℕ) → Costs S did n → weight S (put_ctrl S v did) + w_ctrl S v.ct ≤ weight S v + n
   ctrl_less v did n cost =
-      let a = weigh-append w_cs v.cs (sent 0 did.sends) in
-      let b = weigh-append w_two v.ca (sent 2 did.sends) in
-      let d = weigh-append w_two v.cb (sent 3 did.sends) in
-      omega (arith, a, b, d, cost)
+      omega (arith, weigh-append w_cs v.cs (sent 0 did.sends), weigh-append w_two v.ca (sent 2 did.sends), weigh-append w_two v.cb (sent 3 did.sends), cost)
 
   -- what the switch's messages weigh
   abbrev switch_costs : Step S Switch → ℕ
@@ -22,26 +19,17 @@ module _ {U T C R O : Type 0} (S : System U T C R O) where
 
   switch_less : (v : World T C O) (did : Step S Switch) (n : ℕ) → switch_costs did + 1 ≤ n → weight S (put_switch S v did) + 1 ≤ weight S v + n
   switch_less v did n cost =
-      let a = weigh-append w_one v.sc (sent 1 did.sends) in
-      let b = weigh-append w_sa v.sa (sent 2 did.sends) in
-      let d = weigh-append w_sb v.sb (sent 3 did.sends) in
-      omega (arith, a, b, d, cost)
+      omega (arith, weigh-append w_one v.sc (sent 1 did.sends), weigh-append w_sa v.sa (sent 2 did.sends), weigh-append w_sb v.sb (sent 3 did.sends), cost)
 
   -- what an instance holds and sends, where its messages to the controller weigh this much, and the message that it took
   abbrev inst_costs : (Msg C → ℕ) → Step S (Inst T) → ℕ
   inst_costs w did = length did.node.held + weigh w_one (sent 0 did.sends) + weigh w (sent 1 did.sends) + 1
 
   pub a_less : (v : World T C O) (did : Step S (Inst T)) (n : ℕ) → inst_costs w_ac did ≤ length v.a.held + n → weight S (put_a S v did) + 1 ≤ weight S v + n
-  a_less v did n cost =
-      let a = weigh-append w_one v.aw (sent 0 did.sends) in
-      let b = weigh-append w_ac v.ac (sent 1 did.sends) in
-      omega (arith, a, b, cost)
+  a_less v did n cost = omega (arith, weigh-append w_one v.aw (sent 0 did.sends), weigh-append w_ac v.ac (sent 1 did.sends), cost)
 
   pub b_less : (v : World T C O) (did : Step S (Inst T)) (n : ℕ) → inst_costs w_one did ≤ length v.b.held + n → weight S (put_b S v did) + 1 ≤ weight S v + n
-  b_less v did n cost =
-      let a = weigh-append w_one v.bw (sent 0 did.sends) in
-      let b = weigh-append w_one v.bc (sent 1 did.sends) in
-      omega (arith, a, b, cost)
+  b_less v did n cost = omega (arith, weigh-append w_one v.bw (sent 0 did.sends), weigh-append w_one v.bc (sent 1 did.sends), cost)
 
   goes_costs : (t : Target) (s : Switch) (p : ℕ) → switch_costs (goes S t s p) ≤ 7
   goes_costs To_a s p = omega arith
@@ -109,10 +97,7 @@ module _ {U T C R O : Type 0} (S : System U T C R O) where
   cb_costs i (Restore c) l = omega arith
   cb_costs i Fence l =
       let all = all_costs (record i { rule = Free; held = [] }) i.held in
-      let one = all.0 in
-      let two = all.1 in
-      let three = all.2 in
-      omega (arith, one, two, three)
+      omega (arith, all.0, all.1, all.2)
   cb_costs i m l = absurd l
 
   ac_allowed : (m : Msg C) → allowed S (kind 2 m) + 1 ≡ w_ac m
@@ -136,16 +121,13 @@ module _ {U T C R O : Type 0} (S : System U T C R O) where
   lighter Bw v m rest l = let one = switch_less (with_waits S Bw rest v) (switch_step S v.sw m) 1 (back_costs v.sw m l) in omega (arith, one)
   lighter Sc v m rest l =
       let one = ctrl_less (with_waits S Sc rest v) (ctrl_step S v.ct 0 m) (w_ctrl S v.ct + allowed S (kind 0 m)) (step_costs S v.ct 0 m) in
-      let two = sc_allowed m l in
-      omega (arith, one, two)
+      omega (arith, one, sc_allowed m l)
   lighter Ac v m rest l =
       let one = ctrl_less (with_waits S Ac rest v) (ctrl_step S v.ct 2 m) (w_ctrl S v.ct + allowed S (kind 2 m)) (step_costs S v.ct 2 m) in
-      let two = ac_allowed m in
-      omega (arith, one, two)
+      omega (arith, one, ac_allowed m)
   lighter Bc v m rest l =
       let one = ctrl_less (with_waits S Bc rest v) (ctrl_step S v.ct 3 m) (w_ctrl S v.ct + allowed S (kind 3 m)) (step_costs S v.ct 3 m) in
-      let two = bc_allowed m l in
-      omega (arith, one, two)
+      omega (arith, one, bc_allowed m l)
   lighter Sa v m rest l = let one = a_less (with_waits S Sa rest v) (inst_step S 0 v.a m) (w_sa m) (sa_costs v.a m l) in omega (arith, one)
   lighter Ca v m rest l = let one = a_less (with_waits S Ca rest v) (inst_step S 0 v.a m) 2 (ca_costs v.a m l) in omega (arith, one)
   lighter Sb v m rest l = let one = b_less (with_waits S Sb rest v) (inst_step S 1 v.b m) (w_sb m) (sb_costs v.b m l) in omega (arith, one)

@@ -98,11 +98,7 @@ module _ {U T C R O : Type 0} (S : System U T C R O) where
   row_costs {c} (Deletes cs e) = let is = phase_costs c Getting e in omega (arith, is)
   row_costs {c} (Restores e) = let is = phase_costs c Deleting e in omega (arith, is)
   row_costs {c} (Holds e) = let is = phase_costs c Putting e in omega (arith, is)
-  row_costs {c} (Lays_low e) =
-      let is = phase_costs c Holding e in
-      let all = sends-append (forwards S c.store) ((0, Lay false) ∷ []) in
-      let each = w_forwards c.store in
-      omega (arith, is, all, each)
+  row_costs {c} (Lays_low e) = omega (arith, phase_costs c Holding e, sends-append (forwards S c.store) ((0, Lay false) ∷ []), w_forwards c.store)
   row_costs {c} (Waits e) = let is = phase_costs c Laying e in omega (arith, is)
   row_costs {c} (Lays_high p e) = let is = phase_costs c Waiting e in omega (arith, is)
   row_costs {c} (Settles e) = let is = phase_costs c Turning e in omega (arith, is)
@@ -121,9 +117,6 @@ module _ {U T C R O : Type 0} (S : System U T C R O) where
       let first = ctrl_row S c port m in
       let next = soon_at S first.node.phase first.node in
       let last = finishes S next.node in
-      let one = row_costs (row S c port m) in
-      let two = row_costs (soon_row S first.node first.node.phase refl) in
       let three = finish_costs (finish_row S next.node) in
       let sent_first = sends-append first.sends (next.sends ++ last.sends) in
-      let sent_next = sends-append next.sends last.sends in
-      omega (arith, one, two, three, sent_first, sent_next)
+      omega (arith, row_costs (row S c port m), row_costs (soon_row S first.node first.node.phase refl), three, sent_first, sends-append next.sends last.sends)

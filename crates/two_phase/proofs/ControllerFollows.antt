@@ -152,8 +152,7 @@ module _ {R : Type 0} (setting : Setting R) where
     -- what follows as soon as it may
     soon_follows : (ph : Phase) → FollowsController (soon (phase_shown ph) c) (core.soon_at (sys setting) ph d)
     soon_follows Settling =
-        let test = same_is d.seen d.last in
-        rw test (
+        rw (same_is d.seen d.last) (
         elim (same d.seen d.last) as (λ b.
         FollowsController (if b then tell_step (record c { phase = phase_shown Ending }) 3 (two.Inner (msg.Fence the_update)) else still c)
         (if b then core.says (sys setting) (record d { phase = Ending }) 3 core.Fence else core.still (sys setting) d)) [

@@ -196,8 +196,7 @@ module _ {F R : Type 0} (setting : Setting R) where
     pub get_follows : Follows index (inner_step f i (two.Inner (msg.Get the_update filter))) (core.inst_step (sys setting) index j core.Get)
     unfolding on_get
     get_follows =
-        let live = h.live in
-        record { node = h; sends = ((refl, rw live (Outlines.Chunks (core.System.select (sys setting) j.table))), tt); notes = refl }
+        record { node = h; sends = ((refl, rw h.live (Outlines.Chunks (core.System.select (sys setting) j.table))), tt); notes = refl }
 
     -- the instance with other live records
     live_shows : {t : TableView R} {c : Sound f} → t.live ≡ c.live → InstanceShows setting index (record i { table = t }) (record j { table = c })

@@ -44,8 +44,7 @@ module _ {R : Type 0} (setting : Setting R) where
       → is_sound f (unit_at f.kind site (packet n)) (kept_after f site (finite.get t.live (unit_at f.kind site (packet n))) (packet n)) ≡ true
   kept_sound t n =
       let unit = unit_at f.kind site (packet n) in
-      let transport = (fits n).transport in
-      rw transport (laws.stays site (finite.get t.live unit) (packet n) (fits n) (t.sound unit))
+      rw ((fits n).transport) (laws.stays site (finite.get t.live unit) (packet n) (fits n) (t.sound unit))
 
   abbrev pub process : Sound f → ℕ → Sound f
   process t n =
@@ -135,10 +134,9 @@ module _ {R : Type 0} (setting : Setting R) where
     nothing = λ u. get-empty unit_cmp u;
     processed = λ t n u.
         let unit = unit_at f.kind site (packet n) in
-        let transport = (fits n).transport in
         get-after_packet f site t.live (packet n) u
         ∙ ap (λ b. if b then kept_after f site (finite.get t.live u) (packet n) else finite.get t.live u) (same_unit_equiv.symm u unit)
-        ∙ rw transport refl;
+        ∙ rw ((fits n).transport) refl;
     selected = λ t u. get-retain_keys t.live (takes filter) u (λ x same. ap (takes filter) (sym (one_unit u x same)));
     deleted = λ t s u. get-without (units_in (chunks (select s))) t.live u ∙ ap (λ b. cond b None (finite.get t.live u)) (among_is (select s) u);
     restored = λ t s u none.

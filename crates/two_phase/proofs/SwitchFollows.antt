@@ -147,9 +147,8 @@ module _ {R : Type 0} (setting : Setting R) where
   redirect_shows : (s : SwitchState) (t : core.Switch) (high : Bool) → SwitchShows setting s t
       → SwitchShows setting (record s { rules = rules_redirected (redirect_of high s.filter) s.rules }) (record t { target = laid high t.target })
   redirect_shows s t high h =
-      let own = h.filter_is in
       let r : Redirect = redirect_of high filter in
-      rw own (record {
+      rw h.filter_is (record {
         site_is = h.site_is;
         filter_is = refl;
         filters = AreFilters-redirected r s.rules h.filters (own_numbers high);

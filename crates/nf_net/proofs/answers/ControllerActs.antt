@@ -194,9 +194,8 @@ module _ (g : Given) (n : ℕ) (reach : reaches n 1 0 ≡ true) (c : ControllerS
             let plan = (are.shares op s there).1 in
             let one : sent_weight answering n 1 ((0, Msg.Answered op) ∷ []) ≡ 1 = rw reach refl in
             let both = sent_weight-append answering n 1 l.first ((0, Msg.Answered op) ∷ []) in
-            let none = first_none in
             Answers op Done (Order.Share plan.names s.plan.filter) (notes ∙ ap (λ a. Note.Answered op a ∷ []) tells.0)
-            (weighs (l.first ++ (0, Msg.Answered op) ∷ []) 1 sends (omega (arith, both, none, one))) plan.order_is (λ other. absurd (other refl))
+            (weighs (l.first ++ (0, Msg.Answered op) ∷ []) 1 sends (omega (arith, both, first_none, one))) plan.order_is (λ other. absurd (other refl))
 
     handed_acts : (op port : ℕ) (m : Msg) → Acts (hand_step c op port m)
     handed_acts op port m = by_handed Acts c (λ k s is. (are.shares k s is).0) share_acts op port m (turn_acts op port m (finite.get c.operations op) refl)

@@ -73,10 +73,9 @@ module _ {F R : Type 0} (f : Semantics R) (n k : ℕ) (reach : reaches n k 0 ≡
   unfolding process_step
   processed_is i m cell =
       let after = (process_step f i m cell).node in
-      let told_is = shared_none after m (unit_at f.kind i.site cell.packet) in
       let both = sent_weight-append credit n k (to_controller (share_message f after m (unit_at f.kind i.site cell.packet))) ((0, Msg.Credit cell) ∷ []) in
       let home : sent_weight credit n k ((0, Msg.Credit cell) ∷ []) ≡ 1 = rw reach refl in
-      record { came = refl; even = omega (arith, both, told_is, home) }
+      record { came = refl; even = omega (arith, both, shared_none after m (unit_at f.kind i.site cell.packet), home) }
 
   -- what an instance does with any message
   pub instance_is : (i : Instance F R) (m : Msg) → IsEven (instance_step f i m)

@@ -55,11 +55,10 @@ module _ (n : ℕ) (reach : reaches n 1 0 ≡ true) {R : Type 0} (f : Semantics 
           let ends = row_ends g c are way f p m label h.order h.ended in
           let counts = row_counts n reach g 0 c are f p m label in
           let both = sent_weight-append finish n 1 r.sends [] in
-          let sent = counts.unfinished in
           record {
             order = ordered_behind (sign_in m) way h.order;
             ended = ends.ended;
-            unfinished = λ off. (let was = h.unfinished (sym counts.finish_same ∙ off) in omega (arith, was, weight, none, both, sent));
+            unfinished = λ off. (let was = h.unfinished (sym counts.finish_same ∙ off) in omega (arith, was, weight, none, both, counts.unfinished));
             finished = λ on. (let was = h.finished (sym counts.finish_same ∙ on) in ends.settled was.0 was.1);
           }
 
@@ -80,7 +79,6 @@ module _ {F R : Type 0} (f : Semantics R) (g : Given) (n : ℕ) (count_is : n �
       let is : Switch h.switch ≡ Switch s = sym (h.switch_is (Switch h.switch)) ∙ j.nodes_are 0 takes.some (Switch h.switch) in
       let same : h.switch ≡ s = cc in
       let did = switch_closes s f g p m labelled in
-      let closed = did.closed in
       let was = ap (λ x. flag x.closed) same in
       let sent = none_sent f g None n 0 (switch_step s m).sends (λ never. cc) labels in
       let weight = total_after (node_step f) n w 0 p (node_of j.nodes 0) m rest takes finish in
@@ -93,7 +91,7 @@ module _ {F R : Type 0} (f : Semantics R) (g : Given) (n : ℕ) (count_is : n �
         is = record {
           order = subst (λ xs. in_order xs ≡ true) way h.is.order;
           ended = λ e. subst (λ xs. no_command xs ≡ true) way (h.is.ended e);
-          unfinished = λ off. (let none = h.is.unfinished off in omega (arith, closed, was, sent, weight, none));
+          unfinished = λ off. (let none = h.is.unfinished off in omega (arith, did.closed, was, sent, weight, none));
           finished = h.is.finished;
         };
       }
@@ -101,8 +99,7 @@ module _ {F R : Type 0} (f : Semantics R) (g : Given) (n : ℕ) (count_is : n �
       let c = j.nodes.controller in
       let left = taken_outcome (node_step f) n w 1 p (node_of j.nodes 1) m rest takes in
       let same : h.controller ≡ c = own_controller j takes.receiver h.controller h.controller_is in
-      let some = takes.some in
-      let reach : reaches n 1 0 ≡ true = grind (arith, nat_tests, some) in
+      let reach : reaches n 1 0 ≡ true = grind (arith, nat_tests, takes.some) in
       let way = at_controller sign_in (node_step f) n (omega (arith, count_is)) w p (node_of j.nodes 1) m rest takes (sign_at_controller f g p m labelled) in
       record {
         switch = h.switch;
@@ -120,7 +117,6 @@ module _ {F R : Type 0} (f : Semantics R) (g : Given) (n : ℕ) (count_is : n �
       let left = taken_outcome (node_step f) n w k p (node_of j.nodes k) m rest takes in
       let other : k ≢ 1 = (λ never. absurd (omega (arith, never))) in
       let sent = none_sent f g None n k (node_step f (node_of j.nodes k) p m).sends other labels in
-      let none = no_install_to f g None p k m (omega arith) labelled in
       let weight = total_after (node_step f) n w k p (node_of j.nodes k) m rest takes finish in
       let way = at_instance sign_in (node_step f) n (omega (arith, count_is)) w p (node_of j.nodes k) m rest i takes in
       record {
@@ -131,7 +127,7 @@ module _ {F R : Type 0} (f : Semantics R) (g : Given) (n : ℕ) (count_is : n �
         is = record {
           order = subst (λ xs. in_order xs ≡ true) way h.is.order;
           ended = λ e. subst (λ xs. no_command xs ≡ true) way (h.is.ended e);
-          unfinished = λ off. (let was = h.is.unfinished off in omega (arith, sent, none, weight, was));
+          unfinished = λ off. (let was = h.is.unfinished off in omega (arith, sent, no_install_to f g None p k m (omega arith) labelled, weight, was));
           finished = h.is.finished;
         };
       }
@@ -161,9 +157,8 @@ module _ {F R : Type 0} (setting : Setting F R) (last : ends_last setting.items 
 
   ends_at_start : Ends first
   ends_at_start =
-      let count = count_at_start setting in
       let only = all_each (λ item. is_item item ≡ true) items is.only_items in
-      let waits = opening_waiting Note (first_nodes {F = F} {R = R} alloc c) items (omega (arith, count)) in
+      let waits = opening_waiting Note (first_nodes {F = F} {R = R} alloc c) items (omega (arith, count_at_start setting)) in
       let way : picked sign_in items ≡ on_way sign_in first = ap (λ xs. picked sign_in xs) (sym (waits 0 0))
       ∙ ap (λ xs. picked sign_in xs ++ picked sign_in (queue_at first (at 0 0))) (sym (waits 0 1)) in
       record {
@@ -195,6 +190,4 @@ all_settled {F = F} {R = R} w some done h op = by_sent h.controller.finish_sent 
         let ended : node_ended {F = F} {R = R} (Switch h.switch) ≡ true = ap node_ended (sym (h.switch_is (Switch h.switch)))
         ∙ done_node node_ended w done 0 (Switch h.switch) some in
         let closed : flag h.switch.closed ≡ 1 = ap flag (and_parts h.switch.closed (h.switch.flying == 0) ended).0 in
-        let none = done_weight node_ended w done finish in
-        let never = h.is.unfinished off in
-        absurd (omega (arith, closed, none, never))
+        absurd (omega (arith, closed, done_weight node_ended w done finish, h.is.unfinished off))

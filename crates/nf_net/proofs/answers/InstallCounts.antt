@@ -85,10 +85,9 @@ module _ (n : ℕ) (reach : reaches n 1 0 ≡ true) (plan : MovePlan) where
   said_adds o Nothing = refl
   said_adds o (Release cells) =
       let last : List (ℕ × Msg) = (0, Msg.Install plan.op plan.filter plan.from (Target.Instance plan.to)) ∷ [] in
-      let both = sent_weight-append (sent_of o) n 1 (map (forward_to plan plan.to) cells) last in
       let none = weighs_none (sent_of o) n 1 (map (forward_to plan plan.to) cells) (each_forward (λ m. sent_of o m ≡ 0) plan plan.to (λ c. refl) cells) in
       let one : sent_weight (sent_of o) n 1 last ≡ change o plan.op = rw reach (omega arith) in
-      omega (arith, both, none, one)
+      omega (arith, sent_weight-append (sent_of o) n 1 (map (forward_to plan plan.to) cells) last, none, one)
   said_adds o (Put ps) = none_said o (Put ps) (λ p. refl)
   said_adds o (Give_back cells) = none_said o (Give_back cells) (refl, λ c. refl)
   said_adds o says = none_said o says (refl, tt)
@@ -119,9 +118,8 @@ module _ (n : ℕ) (reach : reaches n 1 0 ≡ true) (plan : MovePlan) where
 
     pub row_adds : (ph : Phase) (port : ℕ) (message : Msg) → IsRefusing ph → Adds ph (row (record { plan = plan; phase = ph }) events port message).next
     row_adds = move_fits plan events (λ ph m r. IsRefusing ph → Adds ph r.next) (λ ph m x way h.
-        let adds = way_adds way h in
         record {
-          own = (let all = said_adds (Some plan.op) x.says in let one = counts_own x.says in omega (arith, adds, all, one));
+          own = (let all = said_adds (Some plan.op) x.says in let one = counts_own x.says in omega (arith, way_adds way h, all, one));
           other = λ op off. said_adds (Some op) x.says ∙ counts_other op off x.says;
           unfinished = said_adds None x.says ∙ counts_end x.says;
         })

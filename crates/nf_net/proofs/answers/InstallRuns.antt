@@ -43,14 +43,13 @@ module _ {F R : Type 0} (f : Semantics R) (g : Given) (n : ℕ) where
   balance_after w k p node m rest takes op before after balance changes =
       let left = taken_outcome (node_step f) n w k p node m rest takes in
       let notes = (node_step f node p m).notes in
-      let weight = total_after (node_step f) n w k p node m rest takes (install op) in
       let installed : times_installed op (world_next (node_step f) w (at k p)).log ≡ times_installed op w.log + times_installed op notes =
       ap (times_installed op) left.log ∙ times_installed-append op w.log notes in
       let answered : dones (is_moving (g.orders op)) (answers_of op (world_next (node_step f) w (at k p)).log)
       ≡ dones (is_moving (g.orders op)) (answers_of op w.log) + dones (is_moving (g.orders op)) (answers_of op notes) =
       ap (λ l. dones (is_moving (g.orders op)) (answers_of op l)) left.log ∙ ap (dones (is_moving (g.orders op))) (answers_of-append op w.log notes)
       ∙ dones-append (is_moving (g.orders op)) (answers_of op w.log) (answers_of op notes) in
-      omega (arith, balance, changes, weight, installed, answered)
+      omega (arith, balance, changes, total_after (node_step f) n w k p node m rest takes (install op), installed, answered)
 
   installs_after : (w : Network (Node F R) Msg Note) (k p : ℕ) (m : Msg) (rest : List Msg) (j : Joined f g n w)
       (takes : Takes (node_step f) n w k p (node_of j.nodes k) m rest)
@@ -72,19 +71,17 @@ module _ {F R : Type 0} (f : Semantics R) (g : Given) (n : ℕ) where
       let c = j.nodes.controller in
       let left = taken_outcome (node_step f) n w 1 p (node_of j.nodes 1) m rest takes in
       let same : h.controller ≡ c = own_controller j takes.receiver h.controller h.controller_is in
-      let some = takes.some in
-      let reach : reaches n 1 0 ≡ true = grind (arith, nat_tests, some) in
+      let reach : reaches n 1 0 ≡ true = grind (arith, nat_tests, takes.some) in
       record {
         controller = (controller_step c p m).node;
         controller_is = left.own;
         balance = λ op.
             let did = controller_counts n reach g op c (known f g c j.world.ops j.world.shares j.world.next j.shown_is.controller) f p m labelled in
-            let none = no_install_to f g (Some op) p 1 m (omega arith) labelled in
             let noted = none_installed op (controller_step c p m).notes (controller_uninstalled c p m) in
             balance_after w 1 p (node_of j.nodes 1) m rest takes op (open_in (finite.get c.operations op))
             (open_in (finite.get (controller_step c p m).node.operations op)) (subst (λ x. total (install op) w + times_installed op w.log
             ≡ open_in (finite.get x.operations op) + dones (is_moving (g.orders op)) (answers_of op w.log)) same (h.balance op))
-            (omega (arith, did, none, noted));
+            (omega (arith, did, no_install_to f g (Some op) p 1 m (omega arith) labelled, noted));
       }
   installs_after w (suc (suc i)) p m rest j takes labelled labels h =
       let k : ℕ = suc (suc i) in
@@ -158,8 +155,7 @@ module _ {F R : Type 0} (f : Semantics R) (g : Given) (n : ℕ) (count_is : n �
   few_open : (x : Operation) → there ≡ Some x → answers_to x ≡ [] → open_in (Some x) + dones moves_units (answers_of op w.log) ≤ 1
   few_open x e none =
       let no = ap (dones moves_units) (told x e ∙ none) in
-      let less = open_few (Some x) in
-      omega (arith, no, less)
+      omega (arith, no, open_few (Some x))
 
   few : (o : Option Operation) → there ≡ o → open_in o + dones moves_units (answers_of op w.log) ≤ 1
   few None e = let once = (b.is.answered op).answered_once in let less = dones_few moves_units (answers_of op w.log) in omega (arith, once, less)
@@ -186,9 +182,7 @@ module _ {F R : Type 0} (f : Semantics R) (g : Given) (n : ℕ) (count_is : n �
 
   pub refused_none_installed : (a : Answer) → answers_of op w.log ≡ a ∷ [] → a ≢ Answer.Done → times_installed op w.log ≡ 0
   refused_none_installed a is other =
-      let balance = balance_is a is unlike in
-      let none = dones-none moves_units a (not_done a other) in
-      omega (arith, balance, none)
+      omega (arith, balance_is a is unlike, dones-none moves_units a (not_done a other))
     where
       -- an open share was answered that it is done
       done_is : (b : Bool) → a ∷ [] ≡ (if b then Answer.Done ∷ [] else []) → ⊥
@@ -202,17 +196,14 @@ module _ {F R : Type 0} (f : Semantics R) (g : Given) (n : ℕ) (count_is : n �
   pub done_installed : moves_units ≡ true → is_done node_ended w ≡ true → answers_of op w.log ≡ Answer.Done ∷ [] → times_installed op w.log ≡ 1
   done_installed moves done is =
       let balance = balance_is Answer.Done is (λ s e. let never : true ≡ false = sym moves ∙ unshared s e in cc) in
-      let none = done_weight node_ended w done (install op) in
       let one : dones moves_units (Answer.Done ∷ []) ≡ 1 = rw moves refl in
-      omega (arith, balance, none, one)
+      omega (arith, balance, done_weight node_ended w done (install op), one)
 
   -- a command that neither moves nor shares units changes no rules
   pub still_installed : moves_units ≡ false → shares_units (g.orders op) ≡ false → times_installed op w.log ≡ 0
   still_installed still unlike =
-      let balance = h.balance op in
       let none : dones moves_units (answers_of op w.log) ≡ 0 = ap (λ v. dones v (answers_of op w.log)) still ∙ dones_still (answers_of op w.log) in
-      let closed = by_got there refl in
-      omega (arith, balance, none, closed)
+      omega (arith, h.balance op, none, by_got there refl)
     where
       by_got : (o : Option Operation) → there ≡ o → open_in o ≡ 0
       by_got None e = refl
@@ -235,9 +226,8 @@ module _ {F R : Type 0} (setting : Setting F R) where
     controller_is = λ d. refl;
     balance = λ op.
         let none = opening_weight Note (first_nodes {F = F} {R = R} alloc c) items (install op) in
-        let given_none = items_none f (given setting) (Some op) items (all_labelled setting) in
         let closed : open_in (finite.get (finite.empty {X = Operation} {R = nat_cmp}) op) ≡ 0 = ap open_in (finite.get-empty nat_cmp op) in
-        omega (arith, none, given_none, closed);
+        omega (arith, none, items_none f (given setting) (Some op) items (all_labelled setting), closed);
   }
 
   pub run_installs : (cs : List Choice) → IsCourse setting cs → Installs (given setting) (world_of setting cs)

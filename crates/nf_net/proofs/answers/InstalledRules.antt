@@ -38,10 +38,9 @@ module _ (n : ℕ) (reach : reaches n 1 0 ≡ true) (g : Given) (k : ℕ) (c : C
   finished_is : (did : Step) → Counts did → Sent (step_and_finish did)
   finished_is did h =
       let was = h.sent in
-      let told = sent_weight-append (install k) n 1 did.sends ((0, Msg.Finish) ∷ []) in
       let one : sent_weight (install k) n 1 ((0, Msg.Finish) ∷ []) ≡ 0 = rw reach refl in
       let untold = sent_weight-append (install k) n 1 did.sends [] in
-      by_finish Sent c did (omega (arith, was, told, one)) (omega (arith, was, untold))
+      by_finish Sent c did (omega (arith, was, sent_weight-append (install k) n 1 did.sends ((0, Msg.Finish) ∷ []), one)) (omega (arith, was, untold))
 
   still_is : Counts (still c)
   still_is = record { sent = refl; unfinished = refl; finish_same = refl }
@@ -59,23 +58,20 @@ module _ (n : ℕ) (reach : reaches n 1 0 ≡ true) (g : Given) (k : ℕ) (c : C
     hands_is : (op : ℕ) (y : CopyState) → finite.get c.operations op ≡ Some (Copy y) → (m : Msg) → ((o : Option ℕ) → sent_of o m ≡ 0) → Counts (hands c op y m)
     hands_is op y is m none =
         let own = no_one n 1 (instance_node y.plan.to) m none in
-        let weighs = own (Some k) in
         let here : open_in (finite.get (hands c op y m).node.operations k) ≡ open_in (finite.get c.operations k) =
         ap open_in (got_insert c.operations op k (Copy (record y { phase = Keeping }))) ∙ split (k == op)
         (λ b. open_in (cond b (Some (Copy (record y { phase = Keeping }))) (finite.get c.operations k)) ≡ open_in (finite.get c.operations k))
         (λ on. sym (ap (λ j. open_in (finite.get c.operations j)) ((Decides-eqb k op).0 on) ∙ ap open_in is)) (λ off. refl) in
-        record { sent = omega (arith, here, weighs); unfinished = own None; finish_same = refl }
+        record { sent = omega (arith, here, own (Some k)); unfinished = own None; finish_same = refl }
 
     ends_is : (op : ℕ) (y : CopyState) → finite.get c.operations op ≡ Some (Copy y) → Counts (ends c op)
     ends_is op y is =
         let plan : IsCopyPlan g op y.plan = (are.copies op y is).1 in
         let own = no_one n 1 0 (Msg.Answered op) (λ o. refl) in
-        let weighs = own (Some k) in
         let turned : (op == k) ≡ (k == op) = grind (arith, nat_tests) in
-        let gone = got_remove c.operations op k in
         let here : open_in (finite.get (finite.remove c.operations op) k) + dones moving (answers_of k (Note.Answered op Done ∷ []))
         ≡ open_in (finite.get c.operations k) =
-        rw (gone, turned) (split (k == op)
+        rw (got_remove c.operations op k, turned) (split (k == op)
         (λ b. open_in (cond b None (finite.get c.operations k)) + dones moving (map (λ (one : ℕ × Answer). one.1) (if b then (op, Done) ∷ [] else []))
         ≡ open_in (finite.get c.operations k))
         (λ on.
@@ -83,7 +79,7 @@ module _ (n : ℕ) (reach : reaches n 1 0 ≡ true) (g : Given) (k : ℕ) (c : C
         let still : moving ≡ false = ap (λ j. is_moving (g.orders j)) same ∙ ap is_moving plan.order_is in
         let none : open_in (finite.get c.operations k) ≡ 0 = ap (λ j. open_in (finite.get c.operations j)) same ∙ ap open_in is in
         rw still (sym none)) (λ off. omega arith)) in
-        record { sent = omega (arith, here, weighs); unfinished = own None; finish_same = refl }
+        record { sent = omega (arith, here, own (Some k)); unfinished = own None; finish_same = refl }
 
     copy_is : (op : ℕ) (y : CopyState) → finite.get c.operations op ≡ Some (Copy y) → (m : Msg) (did : Step)
         → CopyTurn (record { controller = c; op = op; copy = y }) m did → Counts did
@@ -120,10 +116,8 @@ module _ (n : ℕ) (reach : reaches n 1 0 ≡ true) (g : Given) (k : ℕ) (c : C
             ∙ ap open_in is in
             omega (arith, e, sent, before))
             (λ off.
-            let same = (are.moves op mv is).0 in
-            let apart : (mv.plan.op == k) ≡ false = grind (arith, nat_tests, off, same) in
-            let none = adds.other k apart in
-            omega (arith, none))
+            let apart : (mv.plan.op == k) ≡ false = grind (arith, nat_tests, off, (are.moves op mv is).0) in
+            omega (arith, adds.other k apart))
 
         by_answer : (a : Option Answer) → answer_of r.next.phase ≡ a → Counts (after_turn c op (turn_of_move mv c.store r) a)
         by_answer None e =
@@ -135,7 +129,6 @@ module _ (n : ℕ) (reach : reaches n 1 0 ≡ true) (g : Given) (k : ℕ) (c : C
             record { sent = omega (arith, here, sent); unfinished = adds.unfinished; finish_same = refl }
         by_answer (Some a) e =
             let sends = r.next.sends ++ (0, Msg.Answered op) ∷ [] in
-            let both = sent_weight-append (install k) n 1 r.next.sends ((0, Msg.Answered op) ∷ []) in
             let none = no_one n 1 0 (Msg.Answered op) (λ y. refl) (Some k) in
             let gone : finite.get (finite.remove (finite.insert c.operations op (Move x)) op) k ≡ cond (k == op) None (finite.get c.operations k) =
             got_remove (finite.insert c.operations op (Move x)) op k ∙ ap (λ o. cond (k == op) None o) (got_insert c.operations op k (Move x))
@@ -152,7 +145,7 @@ module _ (n : ℕ) (reach : reaches n 1 0 ≡ true) (g : Given) (k : ℕ) (c : C
             (λ off. omega arith)) in
             let sent = sends_are (done_in a) (sym (over_is r.next.phase a e)) in
             record {
-              sent = omega (arith, both, none, here, sent);
+              sent = omega (arith, sent_weight-append (install k) n 1 r.next.sends ((0, Msg.Answered op) ∷ []), none, here, sent);
               unfinished = (let all = sent_weight-append finish n 1 r.next.sends ((0, Msg.Answered op) ∷ []) in
                   let first = adds.unfinished in let last = no_one n 1 0 (Msg.Answered op) (λ y. refl) None in omega (arith, all, first, last));
               finish_same = refl;
@@ -163,7 +156,6 @@ module _ (n : ℕ) (reach : reaches n 1 0 ≡ true) (g : Given) (k : ℕ) (c : C
     share_is op s there did l =
         let quiet : NoInstall n 1 did.sends = subst (NoInstall n 1) (sym l.sends_are)
         (no_both n 1 (answered op l.answer l.first) l.second (answered_none n op l.answer l.first l.first_own) (shares_none n l.second l.second_own)) in
-        let none = quiet (Some k) in
         let plan = (are.shares op s there).1 in
         let still : (k == op) ≡ true → moving ≡ false = (λ on. ap (λ j. is_moving (g.orders j)) ((Decides-eqb k op).0 on) ∙ ap is_moving plan.order_is) in
         let turned : (op == k) ≡ (k == op) = grind (arith, nat_tests) in
@@ -172,7 +164,7 @@ module _ (n : ℕ) (reach : reaches n 1 0 ≡ true) (g : Given) (k : ℕ) (c : C
         let same : open_in (finite.get did.node.operations k) ≡ open_in (finite.get c.operations k) = ap open_in (l.operations k) ∙ split (k == op)
         (λ b. open_in (cond b (Some (Share (record s { phase = l.after }))) (finite.get c.operations k)) ≡ open_in (finite.get c.operations k))
         (λ on. sym (ap (λ j. open_in (finite.get c.operations j)) ((Decides-eqb k op).0 on) ∙ ap open_in there)) (λ off. refl) in
-        record { sent = omega (arith, none, noted_none, same); unfinished = quiet None; finish_same = l.finish_same }
+        record { sent = omega (arith, quiet (Some k), noted_none, same); unfinished = quiet None; finish_same = l.finish_same }
       where
         by_answer : (op : ℕ) (a : Option Answer) → (op == k) ≡ (k == op) → ((k == op) ≡ true → moving ≡ false) → dones moving (answers_of k (noted op a)) ≡ 0
         by_answer op None turned still = refl
@@ -190,12 +182,11 @@ module _ (n : ℕ) (reach : reaches n 1 0 ≡ true) (g : Given) (k : ℕ) (c : C
     opens_is : (op : ℕ) → finite.get c.operations op ≡ None → (o : Operation) (sends : List (ℕ × Msg)) → open_in (Some o) ≡ 0 → NoInstall n 1 sends
         → Counts (opening_step c op o sends)
     opens_is op none o sends zero quiet =
-        let own = quiet (Some k) in
         let here : open_in (finite.get (finite.insert c.operations op o) k) ≡ open_in (finite.get c.operations k) =
         ap open_in (got_insert c.operations op k o)
         ∙ split (k == op) (λ b. open_in (cond b (Some o) (finite.get c.operations k)) ≡ open_in (finite.get c.operations k))
         (λ on. zero ∙ sym (ap (λ y. open_in (finite.get c.operations y)) ((Decides-eqb k op).0 on) ∙ ap open_in none)) (λ off. refl) in
-        record { sent = omega (arith, here, own); unfinished = quiet None; finish_same = refl }
+        record { sent = omega (arith, here, quiet (Some k)); unfinished = quiet None; finish_same = refl }
 
     begun_is : (op : ℕ) → finite.get c.operations op ≡ None → {what : Order} (did : Step) → OpensBy c op what did → Counts did
     begun_is op none did (Opens_move {filter = filter} {keep = keep} from to e at) =

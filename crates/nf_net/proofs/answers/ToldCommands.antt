@@ -26,8 +26,7 @@ told op m = 0
 noted_more : (op : ℕ) (xs ys : List Note) → flag (is_noted op xs) ≤ flag (is_noted op (xs ++ ys))
 noted_more op xs ys =
     let begun = has_begun-append (λ k. k == op) xs ys in
-    let answers_in = has_answered-append op xs ys in
-    rw (begun, answers_in) (more (is_begun op xs) (is_begun op ys) (has_answered op xs) (has_answered op ys))
+    rw (begun, has_answered-append op xs ys) (more (is_begun op xs) (is_begun op ys) (has_answered op xs) (has_answered op ys))
   where
     more : (a b d e : Bool) → flag (a || d) ≤ flag ((a || b) || (d || e))
     more true b d e = omega arith
@@ -38,8 +37,7 @@ noted_more op xs ys =
 noted_new : (op : ℕ) (xs ys : List Note) → is_noted op ys ≡ true → is_noted op (xs ++ ys) ≡ true
 noted_new op xs ys h =
     let begun = has_begun-append (λ k. k == op) xs ys in
-    let answers_in = has_answered-append op xs ys in
-    rw (begun, answers_in) (more (is_begun op xs) (is_begun op ys) (has_answered op xs) (has_answered op ys) h)
+    rw (begun, has_answered-append op xs ys) (more (is_begun op xs) (is_begun op ys) (has_answered op xs) (has_answered op ys) h)
   where
     more : (a b d e : Bool) → b || e ≡ true → (a || b) || (d || e) ≡ true
     more true b d e k = refl
@@ -105,8 +103,7 @@ module _ (g : Given) (log : List Note) (c : ControllerState) (op : ℕ) (open_is
       copies_noted filter (place_of c.names source) (place_of c.names destination) known.0 known.1
   begins_noted (Order.Share members filter) some none =
       let known = names_known c.names members (none_of (unknown_name c (Order.Share members filter)) (overlap c (Order.Share members filter)) none) in
-      let many = known.many in
-      shares_noted filter (filter_map (place_of c.names) members) (omega (arith, many, some))
+      shares_noted filter (filter_map (place_of c.names) members) (omega (arith, known.many, some))
 
   decided_noted : (what : Order) → NamesSome what → (o : Option Answer) → refusal c what ≡ o → Noted (decision_step c op what o)
   decided_noted what some (Some a) is = answered_noted a
@@ -166,23 +163,17 @@ module _ {F R : Type 0} (f : Semantics R) (g : Given) (n : ℕ) (count_is : n �
       left k takes less =
           let notes = (node_step f (node_of j.nodes k) p m).notes in
           let log = ap (λ l. flag (is_noted op l)) (taken_outcome (node_step f) n w k p (node_of j.nodes k) m rest takes).log in
-          let weight = total_after (node_step f) n w k p (node_of j.nodes k) m rest takes (told op) in
-          let more = noted_more op w.log notes in
-          let was = h op some in
-          omega (arith, log, weight, more, was, less)
+          omega (arith, log, total_after (node_step f) n w k p (node_of j.nodes k) m rest takes (told op), noted_more op w.log notes, h op some, less)
 
       by_node : (k : ℕ) → Takes (node_step f) n w k p (node_of j.nodes k) m rest → Label f g p k m
           → 1 ≤ total (told op) (world_next (node_step f) w (at k p)) + flag (is_noted op (world_next (node_step f) w (at k p)).log)
       by_node zero takes labelled =
           let reach : reaches n 0 1 ≡ true = grind (arith, nat_tests, count_is) in
-          let sent = switch_told f g op n reach j.nodes.switch p m labelled in
-          left 0 takes (omega (arith, sent))
+          left 0 takes (omega (arith, switch_told f g op n reach j.nodes.switch p m labelled))
       by_node (suc zero) takes labelled =
           let noted = controller_told f g op w.log j.nodes.controller (keeps_is f g n count_is w j b) p m labelled in
           left 1 takes (omega (arith, noted))
-      by_node (suc (suc i)) takes labelled =
-          let none = instance_told f g op p (suc (suc i)) m (omega arith) labelled in
-          left (suc (suc i)) takes (omega (arith, none))
+      by_node (suc (suc i)) takes labelled = left (suc (suc i)) takes (omega (arith, instance_told f g op p (suc (suc i)) m (omega arith) labelled))
 
 -- a command of the input
 listed : (op : ℕ) (items : List Msg) (what : Order) → order_numbered items op ≡ Some what → 1 ≤ weigh (told op) items
@@ -229,23 +220,20 @@ module _ {F R : Type 0} (setting : Setting F R) where
       let busy = run_busy setting cs run_is in
       let j = busy.0 in
       let ends = run_ends setting last cs run_is in
-      let count = (after_world setting cs run_is).1 in
       let waits = run_told cs run_is op (listed op items what known) in
-      let nothing = done_weight node_ended w done (told op) in
       let same : ends.controller ≡ j.nodes.controller = own_controller j (omega arith) ends.controller ends.controller_is in
       let settled : IsSettled (finite.get j.nodes.controller.operations op) = subst (λ x. IsSettled (finite.get x.operations op)) same
-      (all_settled w (omega (arith, count)) done ends op) in
-      by_settled w j busy.1 (omega (arith, waits, nothing)) (finite.get j.nodes.controller.operations op) refl settled
+      (all_settled w (omega (arith, (after_world setting cs run_is).1)) done ends op) in
+      by_settled w j busy.1 (omega (arith, waits, done_weight node_ended w done (told op))) (finite.get j.nodes.controller.operations op) refl settled
     where
       -- a command whose operation isn't open was answered, and so was a share that is set up
       by_settled : (w : Network (Node F R) Msg Note) (j : Joined f g (length c.names + 2) w) (b : Busy g w) → 1 ≤ flag (is_noted op w.log) →
           (o : Option Operation)
           → finite.get j.nodes.controller.operations op ≡ o → IsSettled o → length (answers_of op w.log) ≡ 1
       by_settled w j b noted None is settled =
-          let few = (b.is.answered op).answered_once in
           let off : keeps_off g.names g.orders op w.log ≡ false = sym (keeps_is f g (length c.names + 2) refl w j b op) ∙ ap is_some is in
           let some = some_answers op w.log (closed_answered (is_begun op w.log) (is_share (g.orders op)) (has_answered op w.log) off noted) in
-          omega (arith, few, some)
+          omega (arith, (b.is.answered op).answered_once, some)
       by_settled w j b noted (Some (Share s)) is settled =
           ap length (told_is f g (length c.names + 2) refl w j b op (Share s) is ∙ ap (λ v. if v then Done ∷ [] else []) settled)
       by_settled w j b noted (Some (Move m)) is settled = absurd settled

@@ -99,15 +99,13 @@ module _ {F R : Type 0} (f : Semantics R) (g : Given) (n : ℕ) (count_is : n �
 
     instance_ended : (i : ℕ) → suc (suc i) < n → (d : Node F R) → node_ended (get_or w.nodes (suc (suc i)) d) ≡ true
     instance_ended i low d =
-        let some = h.stops closed i low d in
         let none = ap (weigh stop) (silent 0 (suc (suc i)) (grind (arith, nat_tests))) in
-        flag_full (node_ended (get_or w.nodes (suc (suc i)) d)) (omega (arith, some, none))
+        flag_full (node_ended (get_or w.nodes (suc (suc i)) d)) (omega (arith, h.stops closed i low d, none))
 
     instance_stopped : (i : ℕ) → suc (suc i) < n → (d : Node F R) → get_or h.controller.stopped i false ≡ true
     instance_stopped i low d =
-        let some = h.finals i low d (instance_ended i low d) in
         let none = ap (weigh final) (silent (suc (suc i)) 1 (grind (arith, nat_tests))) in
-        flag_full (get_or h.controller.stopped i false) (omega (arith, some, none))
+        flag_full (get_or h.controller.stopped i false) (omega (arith, h.finals i low d (instance_ended i low d), none))
 
     pub nodes_ended : list_all node_ended w.nodes ≡ true
     nodes_ended = all_of node_ended w.nodes (Switch h.switch) by_place

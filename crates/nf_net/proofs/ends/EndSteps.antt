@@ -226,9 +226,7 @@ module _ (n : ℕ) (s : SwitchState) where
         let there : reaches n 0 (instance_node i) ≡ true = grind (arith, nat_tests, small, less) in
         let put : put_on_link n 0 0 (instance_node i) (stop_messages s.instances) ≡ sent_for (instance_node i) (stop_messages s.instances) =
         ap (λ b. if b then sent_for (instance_node i) (stop_messages s.instances) else []) there in
-        let some = stops_sent s.instances i less in
-        let same = ap (weigh stop) put in
-        omega (arith, some, same));
+        omega (arith, stops_sent s.instances i less, ap (weigh stop) put));
   }
 
   pub switch_ends : {R : Type 0} (f : Semantics R) (g : Given) (p : ℕ) (m : Msg) → reaches n 0 1 ≡ true → s.instances + 2 ≤ n → Label f g p 0 m

@@ -95,9 +95,7 @@ module _ {F R : Type 0} (f : Semantics R) (laws : FunctionLaws f) (g : Given) (f
         → 1 ≤ weigh stop (queue_at v (at (suc (suc i)) 0)) + flag (node_ended (get_or v.nodes (suc (suc i)) d))
     other_stops i d other was =
         let off : (suc (suc i) == k) ≡ false = grind (arith, nat_tests, other) in
-        let kept = link_keeps stop 0 (suc (suc i)) off in
-        let same = ap flag (other_node i d other) in
-        omega (arith, kept, same, was)
+        omega (arith, link_keeps stop 0 (suc (suc i)) off, ap flag (other_node i d other), was)
 
   -- the nodes of the record are those of the world
   module _ (h : HasEnding n w) where
@@ -136,14 +134,11 @@ module _ {F R : Type 0} (f : Semantics R) (laws : FunctionLaws f) (g : Given) (f
                     let two : i + 2 ≡ suc (suc i) = omega arith in
                     let some : 1 ≤ weigh stop (put_on_link n 0 0 (suc (suc i)) (switch_step s m).sends) =
                     subst (λ r. 1 ≤ weigh stop (put_on_link n 0 0 r (switch_step s m).sends)) two (all i (omega (arith, low, count_is, instances))) in
-                    let is = link_is 0 takes stop 0 (suc (suc i)) in
-                    let none = none_lost 0 takes stop 0 (suc (suc i)) (grind (arith, nat_tests)) in
-                    omega (arith, is, none, some))
+                    omega (arith, link_is 0 takes stop 0 (suc (suc i)), none_lost 0 takes stop 0 (suc (suc i)) (grind (arith, nat_tests)), some))
               ]);
           finals = λ i low d over.
-              let kept = link_keeps 0 takes final (suc (suc i)) 1 refl in
               let was = h.finals i low d (sym (other_node 0 takes i d (λ e. absurd (omega (arith, e)))) ∙ over) in
-              omega (arith, kept, was);
+              omega (arith, link_keeps 0 takes final (suc (suc i)) 1 refl, was);
         }
 
     at_controller : (takes : Takes (node_step f) n w 1 p (node_of j.nodes 1) m rest) → Label f g p 1 m → HasEnding n (world_next (node_step f) w (at 1 p))
@@ -151,8 +146,7 @@ module _ {F R : Type 0} (f : Semantics R) (laws : FunctionLaws f) (g : Given) (f
         let c = j.nodes.controller in
         let left = taken_outcome (node_step f) n w 1 p (node_of j.nodes 1) m rest takes in
         let same : h.controller ≡ c = same_one takes.receiver in
-        let some = takes.some in
-        let reach : reaches n 1 0 ≡ true = grind (arith, nat_tests, some) in
+        let reach : reaches n 1 0 ≡ true = grind (arith, nat_tests, takes.some) in
         let long : length c.stopped ≡ length c.names = subst (λ y. length y.stopped ≡ length y.names) same h.many in
         let did = controller_ends c long f g n p m reach label in
         let after = (controller_step c p m).node in
@@ -198,7 +192,6 @@ module _ {F R : Type 0} (f : Semantics R) (laws : FunctionLaws f) (g : Given) (f
         let left = taken_outcome (node_step f) n w k p (node_of j.nodes k) m rest takes in
         let leaves = its_leaves f laws g fitting n count_is w j p m rest y takes label enough in
         let none = no_ending_to f g p y m label in
-        let unfinished = no_install_to f g None p k m (omega arith) label in
         record {
           switch = h.switch;
           switch_is = λ d. left.others 0 d (λ e. absurd (omega (arith, e))) ∙ h.switch_is d;
@@ -208,7 +201,7 @@ module _ {F R : Type 0} (f : Semantics R) (laws : FunctionLaws f) (g : Given) (f
           came = let law = total_after (node_step f) n w k p (node_of j.nodes k) m rest takes ending in let was = h.came in omega (arith, law, none, was);
           quiet = h.quiet;
           finished = λ sent. (let law = total_after (node_step f) n w k p (node_of j.nodes k) m rest takes finish in
-              let was = h.finished sent in omega (arith, law, unfinished, was));
+              let was = h.finished sent in omega (arith, law, no_install_to f g None p k m (omega arith) label, was));
           stops = λ closed i low d. its_stops y takes leaves i low d (h.stops closed i low d);
           finals = λ i low d over. its_finals y takes leaves i low d over;
         }
@@ -255,10 +248,7 @@ module _ {F R : Type 0} (f : Semantics R) (laws : FunctionLaws f) (g : Given) (f
             -- where it had ended before
             kept : node_ended (get_or w.nodes (suc (suc i)) d) ≡ true
                 → 1 ≤ weigh final (queue_at (world_next (node_step f) w (at (suc (suc y)) p)) (at 1 (suc (suc i)))) + flag (get_or h.controller.stopped i false)
-            kept e =
-                let was = h.finals i low d e in
-                let more = link_keeps (suc (suc y)) takes final (suc (suc i)) 1 (grind (arith, nat_tests)) in
-                omega (arith, was, more)
+            kept e = omega (arith, h.finals i low d e, link_keeps (suc (suc y)) takes final (suc (suc i)) 1 (grind (arith, nat_tests)))
 
             own : suc (suc i) ≡ suc (suc y) → (b : Bool) → (j.nodes.instance (suc (suc y))).ended ≡ b
                 → 1 ≤ weigh final (queue_at (world_next (node_step f) w (at (suc (suc y)) p)) (at 1 (suc (suc i)))) + flag (get_or h.controller.stopped i false)
@@ -268,11 +258,9 @@ module _ {F R : Type 0} (f : Semantics R) (laws : FunctionLaws f) (g : Given) (f
                 let ends : over_by m false ≡ true = ap (over_by m) (sym e) ∙ sym leaves.ended
                 ∙ sym (ap (λ q. node_ended (get_or (world_next (node_step f) w (at (suc (suc y)) p)).nodes q d)) same
                 ∙ ap node_ended ((taken_outcome (node_step f) n w (suc (suc y)) p (node_of j.nodes (suc (suc y))) m rest takes).own d)) ∙ over in
-                let sent = stop_sent y x takes.receiver (stop_over m ends) in
-                let is = link_is (suc (suc y)) takes final (suc (suc y)) 1 in
                 let none = none_lost (suc (suc y)) takes final (suc (suc y)) 1 (grind (arith, nat_tests)) in
                 subst (λ q. 1 ≤ weigh final (queue_at (world_next (node_step f) w (at (suc (suc y)) p)) (at 1 q)) + flag (get_or h.controller.stopped i false))
-                (sym same) (omega (arith, sent, is, none))
+                (sym same) (omega (arith, stop_sent y x takes.receiver (stop_over m ends), link_is (suc (suc y)) takes final (suc (suc y)) 1, none))
 
     ending_after : (k : ℕ) (takes : Takes (node_step f) n w k p (node_of j.nodes k) m rest) → Label f g p k m → HasEnough f n w
         → HasEnding n (world_next (node_step f) w (at k p))
@@ -304,8 +292,7 @@ module _ {F R : Type 0} (setting : Setting F R) (some_end : 1 ≤ ends setting.i
       length-first : (i : ℕ) → length (first_instances {F = F} {R = R} alloc c i) ≡ i
       length-first zero = refl
       length-first (suc i) =
-          let rest = length-first i in
-          let both = length-append (first_instances {F = F} {R = R} alloc c i) (Instance (first_instance alloc c i) ∷ []) in omega (arith, rest, both)
+          let both = length-append (first_instances {F = F} {R = R} alloc c i) (Instance (first_instance alloc c i) ∷ []) in omega (arith, length-first i, both)
 
   ending_at_start : HasEnding nodes (start setting)
   ending_at_start = record {

@@ -102,9 +102,5 @@ module _ {F R : Type 0} (setting : Setting F R) (n : ℕ) (count : n ≡ length 
 
       none : h.switch.flying ≡ 0
       none =
-          let balance = h.balance in
-          let credits = silent_total w world silent credit in
           let input : weights.weigh credit w.input ≡ 0 = items_none f g (queue_at w (at 0 0)) input_label in
-          let few = few_done setting n w j in
-          let many = few_came f c items w.log all_went in
-          omega (arith, balance, credits, input, few, many)
+          omega (arith, h.balance, silent_total w world silent credit, input, few_done setting n w j, few_came f c items w.log all_went)

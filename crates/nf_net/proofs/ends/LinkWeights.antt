@@ -15,15 +15,13 @@ upto_balance : (a b c d : ℕ → ℕ) (n : ℕ) → ((i : ℕ) → i < n → a 
 upto_balance a b c d zero h = refl
 upto_balance a b c d (suc n) h =
     let rest = upto_balance a b c d n (λ i less. h i (omega (arith, less))) in
-    let own = h n (omega arith) in
-    omega (arith, rest, own)
+    omega (arith, rest, h n (omega arith))
 
 pub upto_none : (g : ℕ → ℕ) (n : ℕ) → ((i : ℕ) → i < n → g i ≡ 0) → upto g n ≡ 0
 upto_none g zero h = refl
 upto_none g (suc n) h =
     let rest = upto_none g n (λ i less. h i (omega (arith, less))) in
-    let own = h n (omega arith) in
-    omega (arith, rest, own)
+    omega (arith, rest, h n (omega arith))
 
 upto_only : (g : ℕ → ℕ) (k n : ℕ) → k < n → ((i : ℕ) → (i == k) ≡ false → g i ≡ 0) → upto g n ≡ g k
 upto_only g k zero less h = absurd (omega (arith, less))
@@ -34,9 +32,8 @@ upto_only g k (suc n) less h = split (n == k) (λ _. upto g n + g n ≡ g k)
     let own = ap g same in
     omega (arith, rest, own))
     (λ off.
-    let rest = upto_only g k n (grind (arith, nat_tests, less, off)) h in
     let own = h n off in
-    omega (arith, rest, own))
+    omega (arith, upto_only g k n (grind (arith, nat_tests, less, off)) h, own))
 
 upto_same : (g h : ℕ → ℕ) (n : ℕ) → ((i : ℕ) → g i ≡ h i) → upto g n ≡ upto h n
 upto_same g h zero e = refl
@@ -141,12 +138,11 @@ module _ {A M N : Type 0} (step : A → ℕ → M → Stepped A M N) (n : ℕ) (
   -- what a step changes on one link
   pub cell : (s r : ℕ) → weigh (f s r) (queue_at v (at r s)) + loses s r ≡ weigh (f s r) (queue_at w (at r s)) + gains f n k sends s r
   cell s r =
-      let is = ap (weigh (f s r)) ((taken_outcome step n w k p node m rest takes).waits s r) in
       let both = weigh-append (f s r) (less_first ((s == p) && (r == k)) (queue_at w (at r s))) (put_on_link n k s r sends) in
       let less = split ((s == p) && (r == k))
       (λ b. weigh (f s r) (less_first b (queue_at w (at r s))) + (if b then f s r m else 0) ≡ weigh (f s r) (queue_at w (at r s)))
       (λ on. (let e = there s r on in rw e (omega arith))) (λ _. omega arith) in
-      omega (arith, is, both, less)
+      omega (arith, ap (weigh (f s r)) ((taken_outcome step n w k p node m rest takes).waits s r), both, less)
 
   loses_sum : upto (λ s. upto (loses s) n) n ≡ f p k m
   loses_sum =
@@ -160,14 +156,11 @@ module _ {A M N : Type 0} (step : A → ℕ → M → Stepped A M N) (n : ℕ) (
       let all = upto_balance (λ s. upto (λ r. weigh (f s r) (queue_at v (at r s))) n) (λ s. upto (loses s) n)
       (λ s. upto (λ r. weigh (f s r) (queue_at w (at r s))) n) (λ s. upto (gains f n k sends s) n) n (λ s _. upto_balance
       (λ r. weigh (f s r) (queue_at v (at r s))) (loses s) (λ r. weigh (f s r) (queue_at w (at r s))) (gains f n k sends s) n (λ r _. cell s r)) in
-      let lost = loses_sum in
-      let gained = all_gains f n k sends takes.receiver in
-      omega (arith, all, lost, gained)
+      omega (arith, all, loses_sum, all_gains f n k sends takes.receiver)
 
   -- what is taken is among it
   pub taken_least : f p k m ≤ at_links f n w
   taken_least =
-      let own = ap (weigh (f p k)) takes.waits in
       let inner = upto_least (λ r. weigh (f p r) (queue_at w (at r p))) k n takes.receiver in
       let outer = upto_least (λ s. upto (λ r. weigh (f s r) (queue_at w (at r s))) n) p n takes.sender in
-      omega (arith, own, inner, outer)
+      omega (arith, ap (weigh (f p k)) takes.waits, inner, outer)

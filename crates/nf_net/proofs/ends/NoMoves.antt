@@ -55,13 +55,7 @@ module _ (g : Filter) (fits : filter_fits g ≡ true) where
       record { proto = number_or_0 g.proto; local = bits_in g.local; lport = number_or_0 g.lport; remote = bits_in g.remote; rport = number_or_0 g.rport }
 
   matches_it : matches g its_flow ≡ true
-  matches_it =
-      let a = number_agrees g.proto in
-      let b = bits_agree g.local in
-      let c = number_agrees g.lport in
-      let d = bits_agree g.remote in
-      let e = number_agrees g.rport in
-      rw (a, b, c, d, e) refl
+  matches_it = rw (number_agrees g.proto, bits_agree g.local, number_agrees g.lport, bits_agree g.remote, number_agrees g.rport) refl
 
   fits_it : flow_fits its_flow ≡ true
   fits_it =
@@ -69,12 +63,10 @@ module _ (g : Filter) (fits : filter_fits g ≡ true) where
       let q = (and_parts (number_fits (2 ^ 8) g.proto) _ fits).1 in
       let r = (and_parts (prefix_fits g.local) _ q).1 in
       let s = (and_parts (number_fits (2 ^ 16) g.lport) _ r).1 in
-      let a = number_low (2 ^ 8) g.proto refl p in
-      let b = bits_low g.local (and_parts (prefix_fits g.local) _ q).0 in
       let c = number_low (2 ^ 16) g.lport refl (and_parts (number_fits (2 ^ 16) g.lport) _ r).0 in
       let d = bits_low g.remote (and_parts (prefix_fits g.remote) _ s).0 in
       let e = number_low (2 ^ 16) g.rport refl (and_parts (prefix_fits g.remote) _ s).1 in
-      rw (a, b, c, d, e) refl
+      rw (number_low (2 ^ 8) g.proto refl p, bits_low g.local (and_parts (prefix_fits g.local) _ q).0, c, d, e) refl
 
 record SomeUnit (kind : Kind) (g : Filter) : Type 0 where
   unit : Unit
@@ -83,19 +75,15 @@ record SomeUnit (kind : Kind) (g : Filter) : Type 0 where
 some_unit : (kind : Kind) (g : Filter) → is_whole kind g ≡ true → SomeUnit kind g
 some_unit Conntrack g whole =
     let fits = (and_parts (filter_fits g) _ whole).0 in
-    let a = fits_it g fits in
-    let b = matches_it g fits in
-    record { unit = OfFlow (its_flow g fits); taken = rw (whole, a, b) refl }
+    record { unit = OfFlow (its_flow g fits); taken = rw (whole, fits_it g fits, matches_it g fits) refl }
 some_unit Nat g whole =
     let fits = (and_parts (filter_fits g) _ whole).0 in
     let low = bits_low g.local (and_parts (prefix_fits g.local) _ (and_parts (number_fits (2 ^ 8) g.proto) _ fits).1).0 in
-    let own = bits_agree g.local in
-    record { unit = OfHost (bits_in g.local); taken = rw (whole, low, own) refl }
+    record { unit = OfHost (bits_in g.local); taken = rw (whole, low, bits_agree g.local) refl }
 some_unit Monitor g whole =
     let fits = (and_parts (filter_fits g) _ whole).0 in
     let low = bits_low g.local (and_parts (prefix_fits g.local) _ (and_parts (number_fits (2 ^ 8) g.proto) _ fits).1).0 in
-    let own = bits_agree g.local in
-    record { unit = OfHost (bits_in g.local); taken = rw (whole, low, own) refl }
+    record { unit = OfHost (bits_in g.local); taken = rw (whole, low, bits_agree g.local) refl }
 
 -- A seat without messages
 module _ {R : Type 0} (T : Sys R) (laws : IsSys T) (u : Unit) (n : ℕ) (v : World T) (some : 2 ≤ n)

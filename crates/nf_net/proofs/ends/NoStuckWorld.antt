@@ -72,7 +72,5 @@ module _ {F R : Type 0} (setting : Setting F R) where
 
   pub never_short : IsShort items → (cs : List Choice) → IsCourse setting cs → StopsShort node_ready node_ended (world_of setting cs) (length cs) → ⊥
   never_short short cs run_is stops =
-      let once = (Decides-eqb (ends items) 1).0 short.ended in
-      let all = short_is_long setting (omega (arith, once)) cs run_is (length cs) stops in
-      let few = short_runs setting short cs run_is in
-      omega (arith, all, few)
+      let all = short_is_long setting (omega (arith, (Decides-eqb (ends items) 1).0 short.ended)) cs run_is (length cs) stops in
+      omega (arith, all, short_runs setting short cs run_is)

@@ -126,8 +126,7 @@ module _ (n k p : ℕ) (plan : SharePlan) (own : plan.op ≡ k) (few : Each (λ 
   syncs_weigh ph waits chunks (member ∷ members) h =
       let one = one_sent ph Syncs (instance_node member) (instance_node member) (Msg.Sync (member == home plan) plan.op chunks) h.0
       (at_instance Syncs plan.op member) (waits (instance_node member)) in
-      let rest = syncs_weigh ph waits chunks members h.1 in
-      omega (arith, one, rest)
+      omega (arith, one, syncs_weigh ph waits chunks members h.1)
 
   few_others : (one : ℕ) (members : List ℕ) → Each (λ member. reaches n 1 (instance_node member) ≡ true) members
       → Each (λ member. reaches n 1 (instance_node member) ≡ true) (others (record plan { members = members }) one)
@@ -201,11 +200,9 @@ module _ (n k p : ℕ) (plan : SharePlan) (own : plan.op ≡ k) (few : Each (λ 
 
   one_less : (left : ℕ) → (left - 1 == 0) ≡ false → some_left (left - 1) + 1 ≤ some_left left
   one_less left off =
-      let first = some_is (left - 1) off in
       let more : (left == 0) ≡ false = grind (arith, nat_tests, off) in
-      let second = some_is left more in
       let some : 1 ≤ left = grind (arith, nat_tests, more) in
-      omega (arith, first, second, some)
+      omega (arith, some_is (left - 1) off, some_is left more, some)
 
   synced_row : (ph : SharePhase) (op : ℕ) → ShareGrants ph (Msg.Synced op) (share.row (record { plan = plan; phase = ph }) p (Msg.Synced op))
   synced_row (SharePhase.Setting left) op = split (left - 1 == 0)

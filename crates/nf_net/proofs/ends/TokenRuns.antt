@@ -144,10 +144,7 @@ module _ {F R : Type 0} (f : Semantics R) (laws : FunctionLaws f) (g : Given) (f
           controller_is = λ d. left.others 1 d (λ e. other (sym e)) ∙ h.controller_is d;
           enough = λ op.
               let x = finite.get h.controller.operations op in
-              let law = at_links_after (node_step f) n w k p (node_of j.nodes k) m rest takes (weight op x) in
-              let goes = passes op x in
-              let was = h.enough op in
-              omega (arith, law, goes, was);
+              omega (arith, at_links_after (node_step f) n w k p (node_of j.nodes k) m rest takes (weight op x), passes op x, h.enough op);
           way = on_links_after (TallyLabel f) (node_step f) n w k p (node_of j.nodes k) m rest takes h.way sent;
           tallies = λ i low d. tally_at k i low d takes tally h;
         }
@@ -185,8 +182,7 @@ module _ {F R : Type 0} (f : Semantics R) (laws : FunctionLaws f) (g : Given) (f
         let c = j.nodes.controller in
         let left = taken_outcome (node_step f) n w 1 p (node_of j.nodes 1) m rest takes in
         let same : h.controller ≡ c = own_controller j takes.receiver h.controller h.controller_is in
-        let some = takes.some in
-        let there : reaches n 1 0 ≡ true = grind (arith, nat_tests, some) in
+        let there : reaches n 1 0 ≡ true = grind (arith, nat_tests, takes.some) in
         let names : n ≡ length c.names + 2 = count_is ∙ ap (λ v. length v + 2) (sym j.shown_is.controller.names) in
         record {
           controller = (controller_step c p m).node;
@@ -303,9 +299,7 @@ module _ {F R : Type 0} (f : Semantics R) (g : Given) (n : ℕ) (w : Network (No
       none : wanted (finite.get j.nodes.controller.operations k) ≡ 0
       none =
           let same : h.controller ≡ j.nodes.controller = own_controller j some h.controller h.controller_is in
-          let all = no_links k (finite.get h.controller.operations k) in
-          let enough = h.enough k in
-          subst (λ y. wanted (finite.get y.operations k) ≡ 0) same (omega (arith, all, enough))
+          subst (λ y. wanted (finite.get y.operations k) ≡ 0) same (omega (arith, no_links k (finite.get h.controller.operations k), h.enough k))
 
       by_copy : (ph : CopyPhase) → copy.answer_of ph ≡ None → copy_wants ph ≡ 0 → ⊥
       by_copy CopyPhase.Getting going e = absurd (omega (arith, e))

@@ -140,8 +140,6 @@ pub passes_weigh : (op : ℕ) (x : Option Operation) (n k : ℕ) (o : Option Tok
     → counts op x o ≤ sends_weigh (weight op x) n k sends
 passes_weigh op x n k o sends (inl none) = let own = ap (counts op x) none in omega (arith, own)
 passes_weigh op x n k o sends (inr goes) =
-    let whole = ap (sends_weigh (weight op x) n k) goes.whole in
     let both = sends_weigh-append (weight op x) n k goes.before ((goes.to, goes.message) ∷ goes.after) in
     let one = ap (λ b. if b then weight op x k goes.to goes.message else 0) goes.reach in
-    let same = ap (counts op x) goes.same in
-    omega (arith, whole, both, one, same)
+    omega (arith, ap (sends_weigh (weight op x) n k) goes.whole, both, one, ap (counts op x) goes.same)

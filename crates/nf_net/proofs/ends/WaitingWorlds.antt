@@ -21,8 +21,7 @@ low_told op least (Msg.InCommand k ∷ ms) ok up low =
     let first = up.0 in
     let off : (k.op == op) ≡ false = grind (arith, nat_tests, first, low) in
     let none : ◌≡◌ {A = ℕ} (if k.op == op then 1 else 0) 0 = ap (λ b. if b then 1 else 0) off in
-    let rest = low_told op (suc k.op) ms ok.1 up.1 (omega (arith, first, low)) in
-    omega (arith, none, rest)
+    omega (arith, none, low_told op (suc k.op) ms ok.1 up.1 (omega (arith, first, low)))
 low_told op least (Msg.InPacket p ∷ ms) ok up low = let rest = low_told op least ms ok.1 up low in omega (arith, rest)
 low_told op least (Msg.InSettle ∷ ms) ok up low = let rest = low_told op least ms ok.1 up low in omega (arith, rest)
 low_told op least (Msg.InEnd ∷ ms) ok up low = let rest = low_told op least ms ok.1 up low in omega (arith, rest)
@@ -38,12 +37,11 @@ taken_each : (left whole : List Msg) (least : ℕ) (ms : List Msg) → Each (λ 
     → Each (IsTaken left whole) (commands ms)
 taken_each left whole least [] ok up more = tt
 taken_each left whole least (Msg.InCommand k ∷ ms) ok up more =
-    let none = low_told k.op (suc k.op) (ms ++ left) ok.1 up.1 (omega arith) in
     let parts = weigh-append (told k.op) ms left in
     let self : (k.op == k.op) ≡ true = grind (arith, nat_tests) in
     let one : ◌≡◌ {A = ℕ} (if k.op == k.op then 1 else 0) 1 = ap (λ b. if b then 1 else 0) self in
     let all = more k.op in (
-      record { gone = omega (arith, none, parts); there = omega (arith, one, all) },
+      record { gone = omega (arith, low_told k.op (suc k.op) (ms ++ left) ok.1 up.1 (omega arith), parts); there = omega (arith, one, all) },
       taken_each left whole (suc k.op) ms ok.1 up.1 (λ op. (let whole_so = more op in omega (arith, whole_so))),
     )
 taken_each left whole least (Msg.InPacket p ∷ ms) ok up more = taken_each left whole least ms ok.1 up (λ op. (let all = more op in omega (arith, all)))
@@ -83,10 +81,8 @@ module _ {F R : Type 0} (setting : Setting F R) (n : ℕ) (count_is : n ≡ leng
     where
       noted : 1 ≤ flag (is_noted k.op w.log)
       noted =
-          let told_so = waits k.op t.there in
           let input : total (told k.op) w ≡ weigh (told k.op) left = silent_total w world silent (told k.op) in
-          let gone = t.gone in
-          omega (arith, told_so, input, gone)
+          omega (arith, waits k.op t.there, input, t.gone)
 
       by_got : (o : Option Operation) → finite.get j.nodes.controller.operations k.op ≡ o → has_answered k.op w.log ≡ true
       by_got None there =
@@ -96,8 +92,7 @@ module _ {F R : Type 0} (setting : Setting F R) (n : ℕ) (count_is : n ≡ leng
           let open_so = settled_share f g n count_is w world nodes j enough silent k.op o there in
           let same : finite.get j.nodes.controller.operations k.op ≡ Some (Share open_so.0) = there ∙ ap Some open_so.1.0 in
           let told_so = told_is f g n count_is w j b k.op (Share open_so.0) same in
-          let idle = open_so.1.1 in
-          let one : length (answers_of k.op w.log) ≡ 1 = ap length told_so ∙ rw idle refl in
+          let one : length (answers_of k.op w.log) ≡ 1 = ap length told_so ∙ rw open_so.1.1 refl in
           has_some k.op w.log (omega (arith, one))
 
   all_answered : AllAnswered (commands counted.took) w.log
@@ -112,9 +107,7 @@ module _ {F R : Type 0} (setting : Setting F R) (n : ℕ) (count_is : n ≡ leng
       let parts = ap commands counted.whole ∙ commands-append counted.took left in
       let long = ap length parts ∙ length-append (commands counted.took) (commands left) in
       let both = ap (λ ks. answered_in ks w.log) parts ∙ answered_in-append (commands counted.took) (commands left) w.log in
-      let all = all_counted (commands counted.took) w.log all_answered in
-      let balance = counted.balance in
       let answers = silent_total w world silent answering in
       let input_label : Each (Label f g 0 0) left = j.labels 0 0 (omega (arith, nodes, count_is)) (omega (arith, nodes, count_is)) in
       let none : weigh answering w.input ≡ 0 = items_none f g left input_label in
-      sym (ap (λ s. s.waiting) same) ∙ omega (arith, long, both, all, balance, answers, none)
+      sym (ap (λ s. s.waiting) same) ∙ omega (arith, long, both, all_counted (commands counted.took) w.log all_answered, counted.balance, answers, none)

@@ -38,14 +38,8 @@ module _ (o : ℕ) where
 
   parcels_weigh : (store : Store) (op : ℕ) (cells : List FullCell)
       → in_all (kept o) (with_parcels store op cells) + kept o (stored_of store op) ≤ in_all (kept o) store + kept o cells
-  parcels_weigh store op [] =
-      let less = remove_weighs (kept o) store op in
-      let same = found_kept (finite.get store op) in
-      omega (arith, less, same)
-  parcels_weigh store op (cell ∷ cells) =
-      let less = insert_weighs (kept o) store op (cell ∷ cells) in
-      let same = found_kept (finite.get store op) in
-      omega (arith, less, same)
+  parcels_weigh store op [] = omega (arith, remove_weighs (kept o) store op, found_kept (finite.get store op))
+  parcels_weigh store op (cell ∷ cells) = omega (arith, insert_weighs (kept o) store op (cell ∷ cells), found_kept (finite.get store op))
 
   store_weighs : (store : Store) (op : ℕ) (cells : Option (List FullCell))
       → in_all (kept o) (store_after store op cells) + kept o (stored_of store op) ≤ in_all (kept o) store + kept o (unwrap_or cells (stored_of store op))
@@ -98,25 +92,18 @@ module _ (o : ℕ) where
   turn_falls c op port m (Some (Move mv)) there few =
       let r = row_in mv c.store port m in
       let events = stored_of c.store mv.plan.op in
-      let falls = move_falls o mv.plan events mv.phase port m in
       let now = after_costs c op (Move mv) (Move (record mv { phase = r.next.phase })) there (store_after c.store mv.plan.op r.stored) r.next.sends
       (answer_of r.next.phase) in
-      let ends = closing_move mv r.next.phase in
-      let keeps = store_weighs c.store mv.plan.op r.stored in
-      omega (arith, falls, now, ends, keeps)
+      omega (arith, move_falls o mv.plan events mv.phase port m, now, closing_move mv r.next.phase, store_weighs c.store mv.plan.op r.stored)
   turn_falls c op port m (Some (Copy y)) there few =
       let r = copy.row y port m in
-      let falls = copy_falls o y.plan y.phase port m in
       let now = after_costs c op (Copy y) (Copy (record y { phase = r.phase })) there c.store r.sends (copy.answer_of r.phase) in
-      let ends = closing_copy y r.phase in
-      omega (arith, falls, now, ends)
+      omega (arith, copy_falls o y.plan y.phase port m, now, closing_copy y r.phase)
   turn_falls c op port m (Some (Share s)) there few =
       let r = share.row s port m in
       let own = few s refl in
-      let falls = share_falls o s.plan own.at_home s.phase own.at_member port m in
       let now = after_costs c op (Share s) (Share (record s { phase = r.phase })) there c.store r.sends r.answer in
-      let ends = closing_share s r.phase r.answer in
-      omega (arith, falls, now, ends)
+      omega (arith, share_falls o s.plan own.at_home s.phase own.at_member port m, now, closing_share s r.phase r.answer)
 
   -- What a share serves was there before
   serving_costs : (c : ControllerState) (op : ℕ) (x : Option Operation) → finite.get c.operations op ≡ x
@@ -126,10 +113,8 @@ module _ (o : ℕ) where
   serving_costs c op (Some (Copy y)) there = omega arith
   serving_costs c op (Some (Share s)) there =
       let next = share.service_if_idle s.plan s.phase (stored_of c.store s.plan.op) in
-      let less = served_costs o s.plan s.phase (stored_of c.store s.plan.op) in
       let ops = ops_weigh (of_operation o) c.operations op (Share s) (Share (record s { phase = next.phase })) there in
-      let keeps = store_weighs c.store s.plan.op next.stored in
-      omega (arith, less, ops, keeps)
+      omega (arith, served_costs o s.plan s.phase (stored_of c.store s.plan.op), ops, store_weighs c.store s.plan.op next.stored)
 
   serves_costs : (c : ControllerState) (op : ℕ) → step_costs (ctrl.serve_step c op) ≤ of_controller o c
   serves_costs c op = serving_costs c op (finite.get c.operations op) refl
@@ -158,18 +143,15 @@ module _ (o : ℕ) where
     handed_falls : (op port : ℕ) (m : Msg) → Falls c m (ctrl.hand_step c op port m)
     handed_falls op port m =
         let first = ctrl.takes_turn c op (turn_of (finite.get c.operations op) c.store port m) in
-        let falls = turn_falls c op port m (finite.get c.operations op) refl (few op) in
-        let later = serves_costs first.node op in
         let both = cost-append o first.sends (ctrl.serve_step first.node op).sends in
-        omega (arith, falls, later, both)
+        omega (arith, turn_falls c op port m (finite.get c.operations op) refl (few op), serves_costs first.node op, both)
 
     -- A packet that came for a share
     queued_falls : (op : ℕ) (cell : FullCell) → Falls c (Msg.Diverted cell) (ctrl.queue_step c cell (Some op))
     queued_falls op cell =
-        let more = parcels_weigh c.store op (stored_of c.store op ++ cell ∷ []) in
         let both = weigh-append (λ x. 4 + 2 * o) (stored_of c.store op) (cell ∷ []) in
         let later = serves_costs (record c { store = with_parcels c.store op (stored_of c.store op ++ cell ∷ []) }) op in
-        omega (arith, more, both, later)
+        omega (arith, parcels_weigh c.store op (stored_of c.store op ++ cell ∷ []), both, later)
 
     -- A command
     opens_falls : (k : Command) (op : ℕ) (x : Operation) (sends : List (ℕ × Msg)) → cost o sends + of_operation o x ≤ 14 + 2 * o
@@ -196,7 +178,4 @@ module _ (o : ℕ) where
 
     -- each step of the controller
     pub controller_falls : (port : ℕ) (m : Msg) → Falls c m (controller_step c port m)
-    controller_falls port m =
-        let falls = row_falls port m in
-        let told = finish_costs (ctrl.row c port m) in
-        omega (arith, falls, told)
+    controller_falls port m = omega (arith, row_falls port m, finish_costs (ctrl.row c port m))

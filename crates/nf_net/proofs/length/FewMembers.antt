@@ -26,8 +26,7 @@ but_one one (m ∷ ms) h =
     (λ e.
     let off : (one == m) ≡ false = grind (arith, nat_tests, e) in
     let later : has ms one ≡ true = ap (λ b. if b then true else has ms one) (sym off) ∙ h in
-    let rest = but_one one ms later in
-    omega (arith, rest))
+    omega (arith, but_one one ms later))
 
 each_below : (n : ℕ) (members : List ℕ) → Each (λ member. nat_lt member n ≡ true) members → (q : ℕ) → list_any (λ k. q == k) members ≡ true → q < n
 each_below n [] h q e = cc

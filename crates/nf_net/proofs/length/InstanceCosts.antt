@@ -39,12 +39,10 @@ module _ (op : ℕ) where
       → of_rules (rules.with_held rs op cell) ≡ of_rules rs
   others_weigh cell [] h = refl
   others_weigh cell (r ∷ rs) h =
-      let rest = others_weigh cell rs h.1 in
-      let apart = h.0 in
-      let off : (r.op == op) ≡ false = grind (arith, nat_tests, apart) in
+      let off : (r.op == op) ≡ false = grind (arith, nat_tests, h.0) in
       let same : length (if r.op == op then rules.holding cell r else r).held ≡ length r.held =
       ap (λ b. length (if b then rules.holding cell r else r).held) off in
-      omega (arith, rest, same)
+      omega (arith, others_weigh cell rs h.1, same)
 
   -- one more is held once
   held_weighs : (cell : FullCell) (rs : List (Rule FullCell)) → HaveOneEach rs → of_rules (rules.with_held rs op cell) ≤ 1 + of_rules rs
@@ -55,8 +53,7 @@ module _ (op : ℕ) where
       (λ e.
       let same : r.op ≡ op = (Decides-eqb r.op op).0 e in
       let rest = others_weigh cell rs (subst (λ k. AllByRecursion (λ j. nat_eq k j ≡ false) (map (λ (r : Rule FullCell). r.op) rs)) same h.0) in
-      let long = length-append r.held (cell ∷ []) in
-      omega (arith, rest, long)) (λ e. let rest = held_weighs cell rs h.1 in omega (arith, rest))
+      omega (arith, rest, length-append r.held (cell ∷ []))) (λ e. let rest = held_weighs cell rs h.1 in omega (arith, rest))
 
   -- what is taken away was held
   without_less : (rs : List (Rule FullCell)) → of_rules (rules.without_rule rs op) ≤ of_rules rs
@@ -113,8 +110,7 @@ module _ {F R : Type 0} (f : Semantics R) (o : ℕ) where
       let after = (process_step f i mk cell).node in
       let u = unit_at f.kind i.site cell.packet in
       let both = cost-append o (to_controller (share_message f after mk u)) ((switch_node, Msg.Credit cell) ∷ []) in
-      let less = shared_costs after mk u in
-      omega (arith, both, less)
+      omega (arith, both, shared_costs after mk u)
 
   processed_holds : (i : Instance F R) (mk : Mark) (cell : FullCell) → of_instance (process_step f i mk cell).node ≡ of_instance i
   unfolding process_step
@@ -125,10 +121,7 @@ module _ {F R : Type 0} (f : Semantics R) (o : ℕ) where
   all_costs i [] = omega arith
   all_costs i (cell ∷ cells) =
       let first = process_step f i Mark.Plain cell in
-      let both = cost-append o first.sends (all_processed f first.node cells).sends in
-      let one = processed_costs i Mark.Plain cell in
-      let rest = all_costs first.node cells in
-      omega (arith, both, one, rest)
+      omega (arith, cost-append o first.sends (all_processed f first.node cells).sends, processed_costs i Mark.Plain cell, all_costs first.node cells)
 
   all_hold : (i : Instance F R) (cells : List FullCell) → of_instance (all_processed f i cells).node ≡ of_instance i
   unfolding all_processed
@@ -138,20 +131,15 @@ module _ {F R : Type 0} (f : Semantics R) (o : ℕ) where
   -- A packet
   run_falls : (i : Instance F R) (mk : Mark) (cell : FullCell) → processing o mk + 1 ≤ weights.carried o mk
       → Falls i (Msg.Carry mk cell) (process_step f i mk cell)
-  run_falls i mk cell low =
-      let costs = processed_costs i mk cell in
-      let holds = processed_holds i mk cell in
-      omega (arith, costs, holds, low)
+  run_falls i mk cell low = omega (arith, processed_costs i mk cell, processed_holds i mk cell, low)
 
   plain_falls : (i : Instance F R) → HaveOneEach i.rules → (cell : FullCell) (d : Decide)
       → Falls i (Msg.Carry Mark.Plain cell) (carry_step f i Mark.Plain cell d)
   plain_falls i each cell Decide.Process = run_falls i Mark.Plain cell (omega arith)
   plain_falls i each cell (Decide.ProcessAndEvent op) =
       let first = process_step f i Mark.Plain cell in
-      let costs = processed_costs i Mark.Plain cell in
-      let holds = processed_holds i Mark.Plain cell in
       let both = cost-append o first.sends (to_controller (Msg.Seen op cell.packet ∷ [])) in
-      omega (arith, costs, holds, both)
+      omega (arith, processed_costs i Mark.Plain cell, processed_holds i Mark.Plain cell, both)
   plain_falls i each cell (Decide.Event op) = omega arith
   plain_falls i each cell (Decide.Buffer op) = let more = held_weighs op cell i.rules each in omega (arith, more)
 
@@ -167,11 +155,8 @@ module _ {F R : Type 0} (f : Semantics R) (o : ℕ) where
   fence_falls i op =
       let from : Instance F R = record i { rules = rules.without_rule i.rules op } in
       let all = all_processed f from (rules.held_at i.rules op) in
-      let costs = all_costs from (rules.held_at i.rules op) in
-      let holds = all_hold from (rules.held_at i.rules op) in
-      let less = without_weighs op i.rules in
       let both = cost-append o all.sends (to_controller (Msg.Fenced op ∷ [])) in
-      omega (arith, costs, holds, less, both)
+      omega (arith, all_costs from (rules.held_at i.rules op), all_hold from (rules.held_at i.rules op), without_weighs op i.rules, both)
 
   -- State, and what else processes no packet: a piece is refused only where it is put first
   refused_falls : (i : Instance F R) (op : ℕ) (piece : Piece) (first : Bool) (why : Answer) → refusal_of i piece first ≡ Some why

@@ -82,7 +82,4 @@ module _ {F R : Type 0} (setting : Setting F R) (n : ℕ) (w : Network (Node F R
     pub live_few : finite.len (j.nodes.instance k).table.live ≤ length (arrivals_in w.log)
     live_few =
         let less = length-le_from_is_member same_unit_equiv (keys_of (finite.entries live)) (map unit (arrivals_in w.log)) (distinct_entries live) has_packet in
-        let keys = length-keys_of (finite.entries live) in
-        let many = len-entries live in
-        let mapped = length-map (arrivals_in w.log) unit in
-        omega (arith, less, keys, many, mapped)
+        omega (arith, less, length-keys_of (finite.entries live), len-entries live, length-map (arrivals_in w.log) unit)

@@ -63,16 +63,13 @@ module _ (o : ℕ) (plan : MovePlan) where
     way_falls (Stays {ph} {m}) = let one = some o m in omega (arith, one)
     way_falls (Stores {ph} {op} {cell}) = let both = weigh-append (λ c. 4 + 2 * o) events (cell ∷ []) in omega (arith, both)
     way_falls (Removes {a} {b} {came} {d} {op} {p}) =
-        let both = weigh-append of_piece a (p ∷ []) in
         let more = streaming_more d (weigh of_piece (a ++ p ∷ []) + weigh of_piece b) (of_piece p + (weigh of_piece a + weigh of_piece b))
-        (omega (arith, both)) in
-        let one = streaming_one d (of_piece p) (weigh of_piece a + weigh of_piece b) in
-        omega (arith, more, one)
+        (omega (arith, weigh-append of_piece a (p ∷ []))) in
+        omega (arith, more, streaming_one d (of_piece p) (weigh of_piece a + weigh of_piece b))
     way_falls (Is_removed {p} {a} {b} {came} {d} push) =
-        let less = push_costs push in
         let both = weigh-append of_piece b (p ∷ []) in
         let more = streaming_more d (weigh of_piece a + weigh of_piece (b ++ p ∷ [])) (weigh of_piece (p ∷ a) + weigh of_piece b) (omega (arith, both)) in
-        omega (arith, less, more)
+        omega (arith, push_costs push, more)
     way_falls (Is_taken push) = let less = push_costs push in omega (arith, less)
     way_falls (Is_refused push) = let less = push_costs push in omega (arith, less)
     way_falls (Holds Is_last) = omega arith

@@ -27,8 +27,7 @@ module _ {F R : Type 0} (f : Semantics R) (g : Given) (n o : ℕ) (n_is : n ≡ 
     (j : Joined f g n w) where
   node_falls : (k p : ℕ) (m : Msg) → k < n → NodeFalls {F = F} {R = R} o (node_of j.nodes k) m (node_step f (node_of j.nodes k) p m)
   node_falls zero p m there =
-      let few = j.shown_is.switch.instances in
-      let falls = switch_falls o j.nodes.switch (omega (arith, few, n_is, count_is)) m in
+      let falls = switch_falls o j.nodes.switch (omega (arith, j.shown_is.switch.instances, n_is, count_is)) m in
       omega (arith, falls)
   node_falls (suc zero) p m there =
       let falls = controller_falls o j.nodes.controller
@@ -43,8 +42,6 @@ module _ {F R : Type 0} (f : Semantics R) (g : Given) (n o : ℕ) (n_is : n ≡ 
       ≤ of_world {F = F} {R = R} o w + 4 * pieces_among (node_step f (node_of j.nodes k) p m).sends
   world_falls k p m rest takes =
       let did = node_step f (node_of j.nodes k) p m in
-      let messages = total_after (node_step f) n w k p (node_of j.nodes k) m rest takes (weight o) in
       let nodes = nodes_after (node_step f) n w k p (node_of j.nodes k) m rest takes (of_node {F = F} {R = R} o) in
-      let falls = node_falls k p m takes.receiver in
       let few = few_sent (weight o) n k did.sends in
-      omega (arith, messages, nodes, falls, few)
+      omega (arith, total_after (node_step f) n w k p (node_of j.nodes k) m rest takes (weight o), nodes, node_falls k p m takes.receiver, few)

@@ -11,8 +11,4 @@ module _ (weight : Operation → ℕ) (ops : OpenOperations) (op : ℕ) (old new
   ops_weigh = let less = insert_weighs weight ops op new in let same = found in omega (arith, less, same)
 
   pub closed_weigh : in_all weight (finite.remove (finite.insert ops op new) op) + weight old ≤ in_all weight ops
-  closed_weigh =
-      let less = remove_weighs weight ops op in
-      let same = found in
-      let gone = ap (in_all weight) (remove_insert ops op new) in
-      omega (arith, less, same, gone)
+  closed_weigh = omega (arith, remove_weighs weight ops op, found, ap (in_all weight) (remove_insert ops op new))

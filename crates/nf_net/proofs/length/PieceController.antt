@@ -42,20 +42,17 @@ module _ (a k : ℕ) where
   turn_falls c op port m None there = omega arith
   turn_falls c op port m (Some (Move mv)) there =
       let r = row_in mv c.store port m in
-      let falls = move_falls a k mv.plan (stored_of c.store mv.plan.op) mv.phase port m in
       let now = turn_costs c op (Move mv) there (store_after c.store mv.plan.op r.stored) r.next.sends (Move (record mv { phase = r.next.phase }))
       (answer_of r.next.phase) in
-      omega (arith, falls, now)
+      omega (arith, move_falls a k mv.plan (stored_of c.store mv.plan.op) mv.phase port m, now)
   turn_falls c op port m (Some (Copy y)) there =
       let r = copy.row y port m in
-      let none = copy_none a k y.plan y.phase port m in
       let now = turn_costs c op (Copy y) there c.store r.sends (Copy (record y { phase = r.phase })) (copy.answer_of r.phase) in
-      omega (arith, none, now)
+      omega (arith, copy_none a k y.plan y.phase port m, now)
   turn_falls c op port m (Some (Share s)) there =
       let r = share.row s port m in
-      let none = share_none a k s.plan s.phase port m in
       let now = turn_costs c op (Share s) there c.store r.sends (Share (record s { phase = r.phase })) r.answer in
-      omega (arith, none, now)
+      omega (arith, share_none a k s.plan s.phase port m, now)
 
   -- What a share serves
   serving_costs : (c : ControllerState) (op : ℕ) (x : Option Operation) → finite.get c.operations op ≡ x
@@ -65,9 +62,8 @@ module _ (a k : ℕ) where
   serving_costs c op (Some (Copy y)) there = omega arith
   serving_costs c op (Some (Share s)) there =
       let next = share.service_if_idle s.plan s.phase (stored_of c.store s.plan.op) in
-      let none = served_none a k s.plan s.phase (stored_of c.store s.plan.op) in
       let ops = ops_weigh (of_operation a k) c.operations op (Share s) (Share (record s { phase = next.phase })) there in
-      omega (arith, none, ops)
+      omega (arith, served_none a k s.plan s.phase (stored_of c.store s.plan.op), ops)
 
   serves_costs : (c : ControllerState) (op : ℕ) → spent a k (ctrl.serve_step c op).sends + of_controller a k (ctrl.serve_step c op).node ≤ of_controller a k c
   serves_costs c op = serving_costs c op (finite.get c.operations op) refl
@@ -87,10 +83,8 @@ module _ (a k : ℕ) where
     handed_falls : (op port : ℕ) (m : Msg) → UsesNoMore c m (ctrl.hand_step c op port m)
     handed_falls op port m =
         let first = ctrl.takes_turn c op (turn_of (finite.get c.operations op) c.store port m) in
-        let falls = turn_falls c op port m (finite.get c.operations op) refl in
-        let later = serves_costs first.node op in
         let both = spent-append a k first.sends (ctrl.serve_step first.node op).sends in
-        omega (arith, falls, later, both)
+        omega (arith, turn_falls c op port m (finite.get c.operations op) refl, serves_costs first.node op, both)
 
     -- A packet
     queued_falls : (op : ℕ) (cell : FullCell) → UsesNoMore c (Msg.Diverted cell) (ctrl.queue_step c cell (Some op))
@@ -123,7 +117,4 @@ module _ (a k : ℕ) where
 
     -- each step of the controller
     pub controller_uses : (port : ℕ) (m : Msg) → UsesNoMore c m (controller_step c port m)
-    controller_uses port m =
-        let falls = row_uses port m in
-        let told = finish_costs (ctrl.row c port m) in
-        omega (arith, falls, told)
+    controller_uses port m = omega (arith, row_uses port m, finish_costs (ctrl.row c port m))

@@ -26,8 +26,7 @@ few_cut whole (suc n) chunks enough =
     (λ more.
     let long = more_than (length chunks) more in
     let dropped = length-drop 64 chunks in
-    let rest = few_cut whole n (drop 64 chunks) (omega (arith, long, dropped, enough)) in
-    omega (arith, long, dropped, rest))
+    omega (arith, long, dropped, few_cut whole n (drop 64 chunks) (omega (arith, long, dropped, enough))))
 
 -- so many pieces
 pub few_pieces : (chunks : List Chunk) (most : ℕ) → length chunks ≤ most → length (pieces chunks) ≤ most / 64 + 1
@@ -67,9 +66,7 @@ module _ (a k : ℕ) {F R : Type 0} (f : Semantics R) where
   -- one step and then another
   then_none : (one : Step F R) (next : Instance F R → Step F R) → UsesNone one → UsesNone (next one.node) → UsesNone (and_then one next)
   then_none one next first second =
-      let sends = spent-append a k one.sends (next one.node).sends in
-      let notes = weigh-append (arrival a k) one.notes (next one.node).notes in
-      omega (arith, first, second, sends, notes)
+      omega (arith, first, second, spent-append a k one.sends (next one.node).sends, weigh-append (arrival a k) one.notes (next one.node).notes)
 
   -- a packet
   shared_none : (i : Instance F R) (mk : Mark) (u : Unit) → spent a k (to_controller (share_message f i mk u)) ≡ 0
@@ -83,8 +80,7 @@ module _ (a k : ℕ) {F R : Type 0} (f : Semantics R) where
       let after = (process_step f i mk cell).node in
       let u = unit_at f.kind i.site cell.packet in
       let both = spent-append a k (to_controller (share_message f after mk u)) ((switch_node, Msg.Credit cell) ∷ []) in
-      let none = shared_none after mk u in
-      omega (arith, both, none)
+      omega (arith, both, shared_none after mk u)
 
   -- a step of another message
   none_used : (i : Instance F R) (m : Msg) → is_stream m ≡ false → UsesNone (instance_step f i m)

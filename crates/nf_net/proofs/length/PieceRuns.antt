@@ -38,9 +38,8 @@ module _ {F R : Type 0} (f : Semantics R) (a k : ℕ) (g : Given) (n : ℕ) (w :
   streams few (suc zero) p m there = let falls = controller_uses a k j.nodes.controller p m in omega (arith, falls)
   streams few (suc (suc i)) p m there =
       let its = instance_uses a k f (j.nodes.instance (suc (suc i))) m in
-      let all = its.0 in
       let less = streamed_few a k f (j.nodes.instance (suc (suc i))) (few (suc (suc i)) (omega arith) there) m in
-      omega (arith, all, less)
+      omega (arith, its.0, less)
 
   -- and where it makes any
   sends : (i p : ℕ) (m : Msg)
@@ -49,9 +48,7 @@ module _ {F R : Type 0} (f : Semantics R) (a k : ℕ) (g : Given) (n : ℕ) (w :
   sends (suc zero) p m = let falls = controller_uses a k j.nodes.controller p m in omega (arith, falls)
   sends (suc (suc i)) p m =
       let its = instance_uses a k f (j.nodes.instance (suc (suc i))) m in
-      let all = its.0 in
-      let made = its.1 in
-      omega (arith, all, made)
+      omega (arith, its.0, its.1)
 
   -- the world after a choice
   chances_after : (i p : ℕ) (m : Msg) (rest : List Msg) (more : ℕ) → Takes (node_step f) n w i p (node_of j.nodes i) m rest
@@ -59,12 +56,10 @@ module _ {F R : Type 0} (f : Semantics R) (a k : ℕ) (g : Given) (n : ℕ) (w :
       + world_chances {F = F} {R = R} a k (world_next (node_step f) w (at i p)) ≤ world_chances {F = F} {R = R} a k w + more
   chances_after i p m rest more takes falls =
       let did = node_step f (node_of j.nodes i) p m in
-      let messages = total_after (node_step f) n w i p (node_of j.nodes i) m rest takes (chance a k) in
       let all = nodes_after (node_step f) n w i p (node_of j.nodes i) m rest takes (node_chances {F = F} {R = R} a k) in
       let log = log_after (node_step f) n w i p (node_of j.nodes i) m rest takes (arrival a k) in
       let few = few_sent (chance a k) n i did.sends in
-      let parts = spent_parts a k did.sends in
-      omega (arith, messages, all, log, few, parts, falls)
+      omega (arith, total_after (node_step f) n w i p (node_of j.nodes i) m rest takes (chance a k), all, log, few, spent_parts a k did.sends, falls)
 
 -- what an input weighs
 input_chances : (a k : ℕ) (items : List Msg) → Each (λ item. is_item item ≡ true) items
@@ -84,9 +79,7 @@ module _ (F R : Type 0) (a k : ℕ) (alloc : Global) (c : Config) where
       → world_chances {F = F} {R = R} a k (started_with alloc c items) ≡ a * length (packets items) + k * length (commands items)
   start_chances items h =
       let first = start_weight (chance a k) (node_chances {F = F} {R = R} a k) alloc c (λ i. refl) items in
-      let none = empty_weighs (of_operation a k) in
-      let input = input_chances a k items h in
-      omega (arith, first, none, input)
+      omega (arith, first, empty_weighs (of_operation a k), input_chances a k items h)
 
 module _ {F R : Type 0} (setting : Setting F R) where
   open setting use {function as f, alloc, config as c, items, is_input as is}
@@ -109,19 +102,16 @@ module _ {F R : Type 0} (setting : Setting F R) where
   few_begin : AreFew [] begin
   few_begin =
       let each = all_each (λ item. is_item item ≡ true) items is.only_items in
-      let one = start_chances F R 1 0 alloc c items each in
-      let other = start_chances F R 0 most alloc c items each in
-      record { came = omega (arith, one); sent = omega (arith, other) }
+      record { came = omega (arith, start_chances F R 1 0 alloc c items each); sent = omega (arith, start_chances F R 0 most alloc c items each) }
 
   -- each instance has few records
   few_made : (cs : List Choice) (w : Network (Node F R) Msg Note) (j : Joined f (given setting) n w) (h : AreFew cs w) (i : ℕ) → 2 ≤ i → i < n
       → (filter : Filter) → length (pieces (selected_chunks f (j.nodes.instance i) filter)) ≤ most
   few_made cs w j h i two there filter =
       let chunks = few_selected f filter (j.nodes.instance i).table.live in
-      let units = live_few setting n w j i two there in
       let log = arrivals_weigh 0 w.log in
       let came = h.came in
-      few_pieces (selected_chunks f (j.nodes.instance i) filter) (length (packets items)) (omega (arith, chunks, units, log, came))
+      few_pieces (selected_chunks f (j.nodes.instance i) filter) (length (packets items)) (omega (arith, chunks, live_few setting n w j i two there, log, came))
 
   few_next : (cs : List Choice) (x : Choice) (s : RunStep setting (run (node_step f) cs begin) x) → AreFew cs (run (node_step f) cs begin)
       → AreFew (cs ++ x ∷ []) (world_next (node_step f) (run (node_step f) cs begin) x)
@@ -130,20 +120,16 @@ module _ {F R : Type 0} (setting : Setting F R) where
       let j = s.runs.joined in
       let m = s.taking.message in
       let g = given setting in
-      let more = pieces_next setting cs x s in
       let arrives = chances_after f 1 0 g n w j x.node x.port m s.taking.rest _ s.takes (sends f 1 0 g n w j x.node x.port m) in
       let falls = chances_after f 0 most g n w j x.node x.port m s.taking.rest 0 s.takes
       (streams f 0 most g n w j (few_made cs w j h) x.node x.port m s.takes.receiver) in
       let came = h.came in
       let sent = h.sent in
-      record { came = omega (arith, arrives, came); sent = omega (arith, falls, more, sent) }
+      record { came = omega (arith, arrives, came); sent = omega (arith, falls, pieces_next setting cs x s, sent) }
 
   run_few : (cs : List Choice) → IsRun node_ready (node_step f) cs begin → AreFew cs (run (node_step f) cs begin)
   run_few = run_keeps setting AreFew few_begin (λ ds _ d s. few_next ds d s)
 
   -- a run's moves send at most so many pieces
   pub pieces_few : (cs : List Choice) → IsRun node_ready (node_step f) cs begin → pieces_sent f begin cs ≤ most_pieces items
-  pieces_few cs run_is =
-      let all = (run_few cs run_is).sent in
-      let turned = mul_comm most (length (commands items)) in
-      omega (arith, all, turned)
+  pieces_few cs run_is = omega (arith, (run_few cs run_is).sent, mul_comm most (length (commands items)))

@@ -28,9 +28,7 @@ start_weighs : (F R : Type 0) (o : ℕ) (alloc : Global) (c : Config) (items : L
     → of_world {F = F} {R = R} o (started_with alloc c items) ≡ weigh (weight o) items + (3 + 2 * o)
 start_weighs F R o alloc c items =
     let first = start_weight (weight o) (of_node {F = F} {R = R} o) alloc c (λ i. refl) items in
-    let none = empty_weighs (of_operation o) in
-    let empty = empty_weighs (kept o) in
-    omega (arith, first, none, empty)
+    omega (arith, first, empty_weighs (of_operation o), empty_weighs (kept o))
 
 -- the pieces of one choice more
 module _ {F R : Type 0} (f : Semantics R) where
@@ -62,21 +60,17 @@ module _ {F R : Type 0} (setting : Setting F R) where
   pieces_next cs k s =
       let w = world_of setting cs in
       let node = node_of s.runs.joined.nodes k.node in
-      let count = s.takes.count in
-      let more = pieces_more f cs k first in
       let sent : pieces_of f k (slice_get w.nodes k.node) (queue_at w k) ≡ pieces_among (node_step f node k.port s.taking.message).sends =
-      ap (λ x. pieces_of f k x (queue_at w k)) (slice_get-get_or w.nodes k.node node (rw count s.takes.receiver) ∙ ap Some (s.takes.node_is node))
+      ap (λ x. pieces_of f k x (queue_at w k)) (slice_get-get_or w.nodes k.node node (rw s.takes.count s.takes.receiver) ∙ ap Some (s.takes.node_is node))
       ∙ ap (pieces_of f k (Some node)) s.takes.waits in
-      omega (arith, more, sent)
+      omega (arith, pieces_more f cs k first, sent)
 
   next_lighter : (cs : List Choice) (k : Choice) (s : RunStep setting (world_of setting cs) k)
       → IsLighter cs (world_of setting cs) → IsLighter (cs ++ k ∷ []) (world_next (node_step f) (world_of setting cs) k)
   next_lighter cs k s so_far =
       let falls = world_falls f (given setting) (length c.names + 2) besides (let few = besides_is in omega (arith, few)) refl
       (world_of setting cs) s.runs.joined k.node k.port s.taking.message s.taking.rest s.takes in
-      let more = pieces_next cs k s in
-      let long = length-append cs (k ∷ []) in
-      omega (arith, falls, more, long, so_far)
+      omega (arith, falls, pieces_next cs k s, length-append cs (k ∷ []), so_far)
 
   run_lighter : (cs : List Choice) → IsCourse setting cs → IsLighter cs (world_of setting cs)
   run_lighter = run_keeps setting IsLighter (omega arith) (λ ds _ d s. next_lighter ds d s)
@@ -86,13 +80,11 @@ module _ {F R : Type 0} (setting : Setting F R) where
   run_length ended cs run_is =
       let o = besides in
       let few = besides_is in
-      let lighter = run_lighter cs run_is in
-      let begins = start_weighs F R o alloc c items in
       let input = input_weighs o items (all_each (λ item. is_item item ≡ true) items is.only_items) in
       let once : ends items ≡ 1 = (Decides-eqb (ends items) 1).0 ended in
       let more_packets = times_le (7 + 2 * o) (2 * length c.names + 6) (length (packets items)) (omega (arith, few)) in
       let more_lines = times_le (16 + 2 * o) (4 * length c.names + 24) (lines items) (omega (arith, few)) in
-      omega (arith, lighter, begins, input, once, more_packets, more_lines, few)
+      omega (arith, run_lighter cs run_is, start_weighs F R o alloc c items, input, once, more_packets, more_lines, few)
     where
       times_le : (a b k : ℕ) → a ≤ b → a * k ≤ b * k
       times_le a b zero low = omega arith

@@ -17,10 +17,7 @@ module _ (f : Msg → ℕ) where
   -- no more of that comes to a link
   pub few_sent : (n i : ℕ) (sends : List (ℕ × Msg)) → sent_weight f n i sends ≤ sent_cost sends
   few_sent n i [] = omega arith
-  few_sent n i (x ∷ xs) =
-      let one = arrives (reaches n i x.0) (f x.1) in
-      let rest = few_sent n i xs in
-      omega (arith, one, rest)
+  few_sent n i (x ∷ xs) = omega (arith, arrives (reaches n i x.0) (f x.1), few_sent n i xs)
 
   -- a stop for each instance
   pub stops_weigh : (n : ℕ) → sent_cost (stop_messages n) ≡ n * f Msg.Stop
@@ -33,16 +30,11 @@ module _ (f : Msg → ℕ) where
 module _ {F R : Type 0} (f : Msg → ℕ) (h : Node F R → ℕ) (alloc : Global) (c : Config) (fresh : (i : ℕ) → h (Instance (first_instance alloc c i)) ≡ 0) where
   instances_weigh : (i : ℕ) → weigh h (first_instances alloc c i) ≡ 0
   instances_weigh zero = omega arith
-  instances_weigh (suc i) =
-      let rest = instances_weigh i in
-      let one = fresh i in
-      let both = weigh-append h (first_instances alloc c i) (Instance (first_instance alloc c i) ∷ []) in
-      omega (arith, rest, one, both)
+  instances_weigh (suc i) = omega (arith, instances_weigh i, fresh i, weigh-append h (first_instances alloc c i) (Instance (first_instance alloc c i) ∷ []))
 
   -- the world at the start
   pub start_weight : (items : List Msg) → total f (started_with {F = F} {R = R} alloc c items) + weigh h (started_with {F = F} {R = R} alloc c items).nodes
       ≡ weigh f items + h (Switch (first_switch c)) + h (Controller (controller.controller_at_start c.names c.site))
   start_weight items =
       let messages = opening_weight Note (first_nodes {F = F} {R = R} alloc c) items f in
-      let rest = instances_weigh (length c.names) in
-      omega (arith, messages, rest)
+      omega (arith, messages, instances_weigh (length c.names))

@@ -16,11 +16,8 @@ commands_few (m ∷ items) = commands_few items
 -- few pieces, and few choices
 short_pieces : (items : List Msg) → IsShort items → most_pieces items ≤ 15626000
 short_pieces items short =
-    let many = short.few_packets in
-    let few = short.few_lines in
-    let less = commands_few items in
-    let parts : length (packets items) / 64 ≤ 15625 = div-le_of_le-mul 64 (omega (arith, many)) in
-    let orders : length (commands items) ≤ 1000 = omega (arith, few, less) in
+    let parts : length (packets items) / 64 ≤ 15625 = div-le_of_le-mul 64 (omega (arith, short.few_packets)) in
+    let orders : length (commands items) ≤ 1000 = omega (arith, short.few_lines, commands_few items) in
     let each : length (packets items) / 64 + 1 ≤ 15626 = omega (arith, parts) in
     let all : most_pieces items ≤ 1000 * 15626 = mul-le-mul orders each in
     omega (arith, all)
@@ -40,9 +37,6 @@ module _ {F R : Type 0} (setting : Setting F R) where
 
   pub short_runs : IsShort items → (cs : List Choice) → IsCourse setting cs → length cs < MOST_CHOICES
   short_runs short cs run_is =
-      let long = run_length setting short.ended cs run_is in
-      let sent = pieces_few setting cs run_is in
-      let pieces = short_pieces items short in
       let least = short_choices (length c.names) items (pieces_sent f (start setting) cs) is.is_config.few short
-      (omega (arith, sent, pieces)) in
-      omega (arith, long, least)
+      (omega (arith, pieces_few setting cs run_is, short_pieces items short)) in
+      omega (arith, run_length setting short.ended cs run_is, least)

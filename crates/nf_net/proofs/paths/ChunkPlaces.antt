@@ -274,16 +274,13 @@ module _ {F R : Type 0} (here : Reached F R) (u : Unit) (apart : IsApart here u)
 
     on_a : a < n → records_on x.bc ≡ [] → records_on x.ca ≡ [] → records_on x.cb ≡ [] → spelled_of f u (on_links w chunks_in) ≡ as_spelled u (records_on x.ac)
     on_a few bc ca cb =
-        let self = holds.apart.src in
         links_one silent a 1 few (omega (arith, count)) (λ i k off. at_only silent i k (λ p q. absurd (off p q)) (λ _ _. bc) (λ _ _. ca) (λ _ _. cb))
-        ∙ ap (as_spelled u) (rw self refl)
+        ∙ ap (as_spelled u) (rw holds.apart.src refl)
 
     on_b : b < n → records_on x.ac ≡ [] → records_on x.ca ≡ [] → records_on x.cb ≡ [] → spelled_of f u (on_links w chunks_in) ≡ as_spelled u (records_on x.bc)
     on_b few ac ca cb =
-        let self = holds.apart.dst in
-        let off_a = holds.apart.dst_src in
         links_one silent b 1 few (omega (arith, count)) (λ i k off. at_only silent i k (λ _ _. ac) (λ p q. absurd (off p q)) (λ _ _. ca) (λ _ _. cb))
-        ∙ ap (as_spelled u) (rw (off_a, self) refl)
+        ∙ ap (as_spelled u) (rw (holds.apart.dst_src, holds.apart.dst) refl)
 
     to_a : a < n → records_on x.ac ≡ [] → records_on x.bc ≡ [] → records_on x.cb ≡ [] → spelled_of f u (on_links w chunks_in) ≡ as_spelled u (records_on x.ca)
     to_a few ac bc cb =

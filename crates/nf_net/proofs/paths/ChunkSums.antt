@@ -34,8 +34,7 @@ split r [] ys e = In_right refl e
 split r (x ∷ xs) ys e =
     let same : x ≡ r = cc in
     let more : xs ++ ys ≡ [] = cc in
-    let none = nil_left xs ys more in
-    In_left (rw (none, same) refl) (nil_right xs ys more)
+    In_left (rw (nil_left xs ys more, same) refl) (nil_right xs ys more)
 
 both_nil : {R : Type 0} (xs ys : List R) → xs ≡ [] → ys ≡ [] → xs ++ ys ≡ []
 both_nil xs ys a b = rw (a, b) refl

@@ -122,5 +122,4 @@ module _ {R : Type 0} (f : Semantics R) (g : Given) (u : Unit) where
   held_none [] h = refl
   held_none (r ∷ rs) h =
       let own : filter its (numbers r.held) ≡ [] = those_mine (numbers r.held) ∙ h.0.1 in
-      let rest = held_none rs h.1 in
-      rw (own, rest) refl
+      rw (own, held_none rs h.1) refl

@@ -16,8 +16,7 @@ rising_above p least [] h low = refl
 rising_above p least (n ∷ ns) h low =
     let least_n = h.0 in
     let off : (p == n) ≡ false = grind (arith, nat_tests, low, least_n) in
-    let rest = rising_above p (suc n) ns h.1 (omega (arith, low, least_n)) in
-    rw (off, rest) refl
+    rw (off, rising_above p (suc n) ns h.1 (omega (arith, low, least_n))) refl
 
 pub rising_once : (p least : ℕ) (ns : List ℕ) → IsRising least ns → times p ns ≤ 1
 rising_once p least [] h = omega arith
@@ -69,9 +68,8 @@ module _ {F R : Type 0} (here : Reached F R) (in_turn : IsFront (arrivals_in her
 
   pub each_in_place : (p : ℕ) → times p (processed_of f c items u w.log) + times p (in_flight_of f c items u w) ≡ times p (arrived_of f c items u w.log)
   each_in_place p =
-      let whole = times-append p (processed_of f c items u w.log) (in_flight_of f c items u w) in
       let same : times p (processed_of f c items u w.log ++ in_flight_of f c items u w) ≡ times p (arrived_of f c items u w.log) =
       sym (same_times p (processed_of f c items u w.log ++ in_flight_of f c items u w))
       ∙ same_of ordered.flag (processed_of f c items u w.log ++ in_flight_of f c items u w) (arrived_of f c items u w.log) ordered.order p
       ∙ same_times p (arrived_of f c items u w.log) in
-      omega (arith, whole, same)
+      omega (arith, times-append p (processed_of f c items u w.log) (in_flight_of f c items u w), same)

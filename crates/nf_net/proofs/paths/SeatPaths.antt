@@ -82,8 +82,7 @@ module _ {F R : Type 0} (here : Reached F R) (in_turn : IsFront (arrivals_in her
   owned_by Target.Controller node there fits = absurd (omega (arith, two, node))
   owned_by (Target.Instance i) node there fits =
       let small : nat_lt i (length c.names) ≡ true = subst (λ m. nat_lt i m ≡ true) j.shown_is.switch.instances there in
-      let less = (Decides-ltb i (length c.names)).0 small in
-      let few : instance_node i < n = omega (arith, less, count) in
+      let few : instance_node i < n = omega (arith, (Decides-ltb i (length c.names)).0 small, count) in
       let is_at : target_by g u (installs_in w.log) ≡ instance_node i = sym (j.shown_is.owners u fits) ∙ node in
       let owns : i0 ≡ i = owner_at g u (installs_in w.log) i is_at in
       record { few = subst (λ m. m < n) (sym node) few; own = node ∙ ap instance_node (sym owns) }
@@ -198,10 +197,8 @@ module _ {F R : Type 0} (here : Reached F R) (in_turn : IsFront (arrivals_in her
 
   at_third : at_one k.third ≡ at_side x.c x.sc
   at_third =
-      let ac = k.holds.nodes.ac in
-      let bc = k.holds.nodes.bc in
-      let off_a : (k.third == k.op.src) ≡ false = grind (arith, nat_tests, ac) in
-      let off_b : (k.third == k.op.dst) ≡ false = grind (arith, nat_tests, bc) in
+      let off_a : (k.third == k.op.src) ≡ false = grind (arith, nat_tests, k.holds.nodes.ac) in
+      let off_b : (k.third == k.op.dst) ≡ false = grind (arith, nat_tests, k.holds.nodes.bc) in
       let self : (k.third == k.third) ≡ true = grind (arith, nat_tests) in
       rw (off_a, off_b, self) refl
 

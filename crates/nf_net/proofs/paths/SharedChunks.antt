@@ -113,8 +113,7 @@ module _ {R : Type 0} (f : Semantics R) (g : Given) (z : SeeingShare) where
       let seen : shown f g (Msg.Shared op chunk) ≡ Some (New (ShareMsg.Shared op good.entry)) = ap (option_map (λ y. New (ShareMsg.Shared op y))) good.spells in
       let both : Some (New (ShareMsg.Shared op good.entry)) ≡ Some (New (ShareMsg.Shared n entry)) = sym seen ∙ e in
       let same_entry : good.entry ≡ entry = cc in
-      let spells = good.spells in
-      let all : entries f (chunk ∷ []) ≡ good.entry ∷ [] = rw spells refl in
+      let all : entries f (chunk ∷ []) ≡ good.entry ∷ [] = rw good.spells refl in
       let named : units_in (chunk ∷ []) ≡ entry.0 ∷ [] = units_same f (place g) (chunk ∷ []) (good, tt)
       ∙ ap (λ es. map chunk_unit es) (all ∙ ap (λ y. y ∷ []) same_entry) in
       ap (λ us. is_among us u) named ∙ by_test (same_unit u entry.0) own
@@ -221,9 +220,7 @@ module _ {F R : Type 0} (here : Reached F R) (u : Unit) (x : ShareAsked) (before
   none_on_link s r [] h a = refl
   none_on_link s r (m ∷ ms) h a =
       let both = first_known f g z k.covered s r (shown f g m) (filter_map (shown f g) ms) a in
-      let one = msg_nothing f g z s r m h.0 both.0 in
-      let rest = none_on_link s r ms h.1 both.1 in
-      spelled-append f u (chunks_in m) (flat_map chunks_in ms) ∙ rw (one, rest) refl
+      spelled-append f u (chunks_in m) (flat_map chunks_in ms) ∙ rw (msg_nothing f g z s r m h.0 both.0, none_on_link s r ms h.1 both.1) refl
 
   on_none : (s r : ℕ) → s < n → r < n → spelled_of f u (flat_map chunks_in (on_link w s r)) ≡ []
   on_none s r hs hr = on_each here (λ ms. spelled_of f u (flat_map chunks_in ms) ≡ []) refl s r

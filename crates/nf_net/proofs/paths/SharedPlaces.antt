@@ -91,8 +91,7 @@ module _ {F R : Type 0} (here : Reached F R) (u : Unit) (x : ShareAsked) (before
           let high : 2 ≤ b = grind (arith, nat_tests, on) in
           ap (λ s. filter mine (flat_map passed_in (on_link w s b))) from ∙ (to_instance b high hb).shared ∙ its_places.others b (λ same. off from same))
           (λ out. passed_else here mine a b ha hb (λ h. (let from = h.0 in
-          let high = h.1 in
-          let on : (a == 0) && nat_lt 1 b ≡ true = grind (arith, nat_tests, from, high) in let never : true ≡ false = sym on ∙ out in cc)))
+          let on : (a == 0) && nat_lt 1 b ≡ true = grind (arith, nat_tests, from, h.1) in let never : true ≡ false = sym on ∙ out in cc)))
 
   -- packets on their way by the switch, and those that are diverted
   pub forwards_are : filter mine (on_links w forwarded_in) ≡ forwards own_share v.cs

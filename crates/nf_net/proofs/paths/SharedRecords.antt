@@ -77,9 +77,8 @@ module _ {F R : Type 0} (here : Reached F R) (told : HomesTold here) (u : Unit) 
 
   home_live : live_at w i0 u ≡ v.own x.home
   home_live =
-      let same_home = self x.home in
       ap (λ m. live_in u (slice_get w.nodes m)) home_is ∙ live_there x.home (k.insts x.home k.is.home_in) (few x.home k.is.home_in)
-      ∙ (rw same_home at (k.holds.own x.home k.is.home_in))
+      ∙ (rw (self x.home) at (k.holds.own x.home k.is.home_in))
 
   -- no other has a live record
   pub alone : (i : ℕ) → i ≢ i0 → live_at w i u ≡ None
@@ -138,8 +137,7 @@ module _ {F R : Type 0} (here : Reached F R) (told : HomesTold here) (u : Unit) 
         (is_among (flat_map synced_in (on_link w controller_node (instance_node i0))) u)
         (ap (λ q. is_among (flat_map shared_in (on_link w q controller_node)) u) m_is ∙ on)
     comes (To_home r e) =
-        let low = k.insts x.home k.is.home_in in
-        let off_0 : (x.home == 0) ≡ false = grind (arith, nat_tests, low) in
+        let off_0 : (x.home == 0) ≡ false = grind (arith, nat_tests, k.insts x.home k.is.home_in) in
         let on : is_among (flat_map synced_in (on_link w controller_node x.home)) u ≡ true = taken_on here u x before since
         k 1 x.home (omega (arith, count)) (few x.home k.is.home_in) refl r (rw off_0 e) in
         or_right (is_among (flat_map shared_in (on_link w (instance_node m) controller_node)) u)
@@ -159,9 +157,8 @@ module _ {F R : Type 0} (here : Reached F R) (told : HomesTold here) (u : Unit) 
       member_is = sym m_is;
       other = λ same. a.away (sym m_is ∙ ap instance_node same ∙ home_is);
       stands_by =
-          let off = apart in
           ap (λ q. standby_in u (slice_get w.nodes q)) m_is ∙ standby_there node two (few node inside)
-          ∙ (rw off at (k.holds.own node inside)) ∙ a.own ∙ kept_runs (processed own_share k.stage) ∙ ap kept (sym went_is);
+          ∙ (rw apart at (k.holds.own node inside)) ∙ a.own ∙ kept_runs (processed own_share k.stage) ∙ ap kept (sym went_is);
       on_its_way = comes a.comes;
       its = last_mine f g u j.world.done a.seen (a.last, node) all_ran;
       diverts = a.diverts;

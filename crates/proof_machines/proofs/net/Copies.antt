@@ -84,12 +84,9 @@ module _ {R : Type 0} (S : Sys R) (laws : IsSys S) where
       → (it : Item R) → seen (frame S z) m ≡ Some it → it ∷ filter_map (seen (frame S z)) rest ≡ x.bc
   from_target z w x h i at m rest waits it is =
       let b0 = h.apart.dst_0 in
-      let ba = h.apart.dst_src in
-      let bb = h.apart.dst in
-      let two = h.nodes.b_is in
-      let b1 : (z.op.dst == 1) ≡ false = grind (arith, nat_tests, two) in
+      let b1 : (z.op.dst == 1) ≡ false = grind (arith, nat_tests, h.nodes.b_is) in
       let off : (i == 0) && (1 == 0) ≡ false = rw (at, b0) refl in
-      let all : expect z.op.src z.op.dst z.third x i 1 ≡ x.bc = rw (at, b0, b1, ba, bb) refl in
+      let all : expect z.op.src z.op.dst z.third x i 1 ≡ x.bc = rw (at, b0, b1, h.apart.dst_src, h.apart.dst) refl in
       ap (λ o. add o (filter_map (seen (frame S z)) rest)) (sym is) ∙ head S z w.link i 1 m rest waits off []
       ∙ h.views i 1 ∙ all
 
@@ -105,21 +102,13 @@ module _ {R : Type 0} (S : Sys R) (laws : IsSys S) where
       either_way (n == k.op.num)
       (λ on.
       let own = own_move z w x k.holds n e there on in
-      let a = own.1 in
       let is : seen (frame S z) (Of_move g (MoveMsg.Put_no n why cs)) ≡ Some (Put_no why (record_at u cs)) = rw on refl in
       let link = from_target z w x k.holds e.op.dst (ap (λ o. o.dst) own.0) (Of_move g (MoveMsg.Put_no n why cs)) rest waits (Put_no why (record_at u cs)) is in
-      let back = records_head (Put_no why (record_at u cs)) (filter_map (seen (frame S z)) rest) x.bc link in
-      let one = has_own u cs in
-      let few = few_records S.F k.seat in
-      omega (arith, a, back, one, few))
+      omega (arith, own.1, records_head (Put_no why (record_at u cs)) (filter_map (seen (frame S z)) rest) x.bc link, has_own u cs, few_records S.F k.seat))
       (λ off.
-      let a = one_or_other z w x k.holds n e there off in
-      let l = (each_found (OpLabel S z) n w.ops e k.holds.ops there).0.2 in
-      let b0 = l.dst_0 in
-      let no_input : (e.op.dst == 0) && (1 == 0) ≡ false = rw b0 refl in
+      let no_input : (e.op.dst == 0) && (1 == 0) ≡ false = rw ((each_found (OpLabel S z) n w.ops e k.holds.ops there).0.2).dst_0 refl in
       let lab = (subst (λ ms. Each (Label S z e.op.dst) ms) waits (k.holds.labels e.op.dst 1 no_input)).0 in
-      let none = has_none u cs (lab.1 off) in
-      omega (arith, a, none))
+      omega (arith, one_or_other z w x k.holds n e there off, has_none u cs (lab.1 off)))
 
   -- an event that comes is one of an open move
   pub event_open : (w : World S) (i n p : ℕ) (ps : List ℕ) (b : Bool) → Where S laws (S.packet_unit p) w ps b → (g : Filter) (rest : List (Msg R))

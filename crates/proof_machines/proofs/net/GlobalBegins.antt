@@ -77,7 +77,6 @@ module _ {R : Type 0} (S : Sys R) (A : Sharing S) (laws : IsSys S) where
   pub share_keeps : (w : WholeWorld S A) → GlobalAll S A w → (x : ShareAsked) → MayShare S A w x → GlobalAll S A (begin_share S A w x)
   share_keeps w g x may =
       let fresh = may.fresh in
-      let two = may.two in
       let few : w.next ≤ suc x.num = omega (arith, fresh) in
       let more = global_more S laws (moves_of S A w) g.moves (suc x.num) few in
       let install : List (ℕ × Any R) = (0, New (ShareMsg.Install x.num x.filter x.home)) ∷ [] in
@@ -100,7 +99,7 @@ module _ {R : Type 0} (S : Sys R) (A : Sharing S) (laws : IsSys S) where
         numbers = new_put (λ _ m. Numbered (suc x.num) m) w.link (numbers_more w g (suc x.num) few) 1 install (tt, tt);
         shares_below = each-append (λ e. e.num < suc x.num) w.shares (new_share x ∷ []) (shares_more w g (suc x.num) few) (omega arith, tt);
         nums_apart = nums_more w.shares (new_share x) w.next fresh g.shares_below g.nums_apart;
-        some = each-append (λ e. 0 < length e.members) w.shares (new_share x ∷ []) g.some (omega (arith, two), tt);
+        some = each-append (λ e. 0 < length e.members) w.shares (new_share x ∷ []) g.some (omega (arith, may.two), tt);
         one_kind = λ n. by_num n (x.num == n) refl (g.one_kind n);
         apart_moves = each-append (λ e. Each (λ o. Disjoint S e.filter o.filter) w.ops) w.shares (new_share x ∷ []) g.apart_moves
             (meets_no_move x.filter w.ops may.moves_apart, tt);

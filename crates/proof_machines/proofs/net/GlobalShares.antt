@@ -177,9 +177,8 @@ module _ {R : Type 0} (S : Sys R) where
     told_of es (Old m) e t h is = rw is tt
     told_of es (New (ShareMsg.Chunks n cs)) e t h is = let eq = is.1 in rw eq (h e is.0)
     told_of es (New (ShareMsg.Shared n c)) e t h is =
-        let eq = is.1 in
         let same : h.share ≡ e = (let both = sym h.found ∙ is.0 in cc) in
-        rw eq (one_within e.filter c (subst (λ d. S.takes d.filter c.0 ≡ true) same h.says))
+        rw is.1 (one_within e.filter c (subst (λ d. S.takes d.filter c.0 ≡ true) same h.says))
     told_of es (New (ShareMsg.Synced n)) e t h is = rw is tt
     told_of es (New (Diverted_on p)) e t h is =
         let eq = is.1 in let k = (taking_each S A (λ _. Prim.Unit {0}) es (S.packet_unit p) e (each_any es) is.0).1 in rw eq k

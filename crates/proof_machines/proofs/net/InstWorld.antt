@@ -210,10 +210,9 @@ module _ {R : Type 0} (S : Sys R) (laws : IsSys S) (z : Seeing) where
           let d = inst_does S.F At_a [] None x.a it in
           let g = seen_it At_a [] None x.a (plain_at At_a x.a n m (label_0 p0)) in
           let x' = put_a (record x { sa = v }) d in
-          let same = h.apart.src in
           moves_on (inst_next S w p y m) s Take_sa x' (next_holds x' d g (views_on x'
           (pair 0 z.op.src x' p0 ya (a_from_s z.op.src z.op.dst z.third h.nodes x it v (sent S z y did.sends) d.to_c e (at_1 d g) (at_else d g))))
-          (rw (ya, same) refl) (λ k off. let out : (k == z.op.src) ≡ false = grind (arith, nat_tests) in rw out refl) refl refl refl refl refl)
+          (rw (ya, h.apart.src) refl) (λ k off. let out : (k == z.op.src) ≡ false = grind (arith, nat_tests) in rw out refl) refl refl refl refl refl)
           (taken_sa S.F x it v e) tt
 
       by_sb : y ≡ z.op.dst → p ≡ 0 → x.sb ≡ it ∷ v → Goes_to (inst_next S w p y m) s []
@@ -222,11 +221,10 @@ module _ {R : Type 0} (S : Sys R) (laws : IsSys S) (z : Seeing) where
           let d = inst_does S.F At_b [] None x.b it in
           let g = seen_it At_b [] None x.b (plain_at At_b x.b n m (label_0 p0)) in
           let x' = put_b (record x { sb = v }) d in
-          let off_a = h.apart.dst_src in
           let same = h.apart.dst in
           moves_on (inst_next S w p y m) s Take_sb x' (next_holds x' d g (views_on x'
           (pair 0 z.op.dst x' p0 yb (b_from_s z.op.src z.op.dst z.third h.nodes x it v (sent S z y did.sends) d.to_c e (at_1 d g) (at_else d g))))
-          (rw (yb, off_a, same) refl) (λ k off. let out : (k == z.op.dst) ≡ false = grind (arith, nat_tests) in rw out refl) refl refl refl refl refl)
+          (rw (yb, h.apart.dst_src, same) refl) (λ k off. let out : (k == z.op.dst) ≡ false = grind (arith, nat_tests) in rw out refl) refl refl refl refl refl)
           (taken_sb S.F x it v e) tt
 
       by_sc : y ≡ z.third → p ≡ 0 → x.sc ≡ it ∷ v → Goes_to (inst_next S w p y m) s []
@@ -246,10 +244,9 @@ module _ {R : Type 0} (S : Sys R) (laws : IsSys S) (z : Seeing) where
       ca_goes parts ya p1 e fits g =
           let d = inst_does S.F At_a parts None x.a it in
           let x' = put_a (record x { ca = v }) d in
-          let same = h.apart.src in
           moves_on (inst_next S w p y m) s (Take_ca parts) x' (next_holds x' d g (views_on x'
           (pair 1 z.op.src x' p1 ya (a_from_c z.op.src z.op.dst z.third h.nodes x it v (sent S z y did.sends) d.to_c e (at_1 d g) (at_else d g))))
-          (rw (ya, same) refl) (λ k off. let out : (k == z.op.src) ≡ false = grind (arith, nat_tests) in rw out refl) refl refl refl refl refl)
+          (rw (ya, h.apart.src) refl) (λ k off. let out : (k == z.op.src) ≡ false = grind (arith, nat_tests) in rw out refl) refl refl refl refl refl)
           (taken_ca x parts e) (subst (λ o. ArePiecesOf parts o) (seat_allowed S.F s) fits)
 
       by_ca : y ≡ z.op.src → p ≡ 1 → x.ca ≡ it ∷ v → Goes_to (inst_next S w p y m) s []
@@ -272,11 +269,10 @@ module _ {R : Type 0} (S : Sys R) (laws : IsSys S) (z : Seeing) where
       cb_goes refuse yb p1 e g =
           let d = inst_does S.F At_b [] refuse x.b it in
           let x' = put_b (record x { cb = v }) d in
-          let off_a = h.apart.dst_src in
           let same = h.apart.dst in
           moves_on (inst_next S w p y m) s (Take_cb refuse) x' (next_holds x' d g (views_on x'
           (pair 1 z.op.dst x' p1 yb (b_from_c z.op.src z.op.dst z.third h.nodes x it v (sent S z y did.sends) d.to_c e (at_1 d g) (at_else d g))))
-          (rw (yb, off_a, same) refl) (λ k off. let out : (k == z.op.dst) ≡ false = grind (arith, nat_tests) in rw out refl) refl refl refl refl refl)
+          (rw (yb, h.apart.dst_src, same) refl) (λ k off. let out : (k == z.op.dst) ≡ false = grind (arith, nat_tests) in rw out refl) refl refl refl refl refl)
           (taken_cb x refuse e) tt
 
       by_cb : y ≡ z.op.dst → p ≡ 1 → x.cb ≡ it ∷ v → Goes_to (inst_next S w p y m) s []

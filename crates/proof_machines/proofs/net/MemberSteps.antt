@@ -76,9 +76,8 @@ module _ {R : Type 0} (S : Sys R) (A : Sharing S) (laws : IsSys S) (z : SeeingSh
   chunk_sent : (n p : ℕ) (t : S.B.T)
       → shared_chunk S A n p (process S t p) ≡ (1, New (ShareMsg.Shared n (S.packet_unit p, S.F.step (S.B.at (S.packet_unit p) t) p))) ∷ []
   chunk_sent n p t =
-      let self = same_unit_equiv.refl (S.packet_unit p) in
       let is : S.B.at (S.packet_unit p) (process S t p) ≡ Some (S.F.step (S.B.at (S.packet_unit p) t) p) =
-      laws.written (S.packet_unit p) (S.packet_unit p) (S.F.step (S.B.at (S.packet_unit p) t) p) t ∙ rw self refl in
+      laws.written (S.packet_unit p) (S.packet_unit p) (S.F.step (S.B.at (S.packet_unit p) t) p) t ∙ rw (same_unit_equiv.refl (S.packet_unit p)) refl in
       ap (λ o. option_map_or (λ r. (1, New (ShareMsg.Shared n (S.packet_unit p, r))) ∷ []) o []) is
 
   chunk_seen : (y p : ℕ) (t : S.B.T)
@@ -177,9 +176,8 @@ module _ {R : Type 0} (S : Sys R) (A : Sharing S) (laws : IsSys S) (z : SeeingSh
           ran = refl;
         }
     sync_own n false cs on flag =
-        let there = same_false (y == z.home) flag in
         record {
-          own = rw there (ok.replaced z.unit cs standby);
+          own = rw (same_false (y == z.home) flag) (ok.replaced z.unit cs standby);
           away = λ _. refl;
           to_c = rw on refl;
           others = λ r off. not_others (New (ShareMsg.Synced n)) r off;

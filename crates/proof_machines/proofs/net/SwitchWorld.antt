@@ -198,11 +198,9 @@ module _ {R : Type 0} (S : Sys R) (laws : IsSys S) (z : Seeing) where
       let same : r ≡ from = (let g : from ≡ z.op.src = (Decides-eqb from z.op.src).0 f in is ∙ sym g) in
       let on : (r == from) ≡ true = grind (arith, nat_tests, same) in rw (e, on) ((Decides-eqb to z.op.dst).0 d)
   routed At_b r from to b n f d e is =
-      let ab = n.ab in
-      let g : from ≡ z.op.src = (Decides-eqb from z.op.src).0 f in let off : (r == from) ≡ false = grind (arith, nat_tests, is, g, ab) in rw (e, off) is
+      let g : from ≡ z.op.src = (Decides-eqb from z.op.src).0 f in let off : (r == from) ≡ false = grind (arith, nat_tests, is, g, n.ab) in rw (e, off) is
   routed At_c r from to b n f d e is =
-      let ac = n.ac in
-      let g : from ≡ z.op.src = (Decides-eqb from z.op.src).0 f in let off : (r == from) ≡ false = grind (arith, nat_tests, is, g, ac) in rw (e, off) is
+      let g : from ≡ z.op.src = (Decides-eqb from z.op.src).0 f in let off : (r == from) ≡ false = grind (arith, nat_tests, is, g, n.ac) in rw (e, off) is
 
   install_case : (g : Filter) (k from to : ℕ) (at : Waits (Of_move g (MoveMsg.Install k from to))) → Leads at
   install_case g k from to at =

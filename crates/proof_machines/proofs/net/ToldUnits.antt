@@ -95,7 +95,6 @@ module _ {R : Type 0} (S : Sys R) (laws : IsSys S) (u : Unit) where
       (λ nb. takes_seat w ps c x At_c owner d l b g may takes
       (record { a_is = may.src; b_is = may.dst; c_is = h.two; ab = may.other; ac = grind (arith, nat_tests); bc = grind (arith, nat_tests) }) h o f)))
       (λ out.
-      let fresh = may.fresh in
       let n = suc x.num in
       let op : Op = record { num = n; src = owner; dst = suc owner; keep = true } in
       let off : (x.num == n) ≡ false = grind (arith, nat_tests) in
@@ -105,7 +104,7 @@ module _ {R : Type 0} (S : Sys R) (laws : IsSys S) (u : Unit) where
         seat = seat_at S.F At_a d l true;
         flag = b;
         holds = other_begins S laws u op (suc (suc owner)) w x (seat_shape S.F (seat_at S.F At_a d l true)) off out
-            (apart_of S laws u x.num x.src x.dst x.keep may.src may.dst may.other) (shown_rest S laws u w n owner d l g (omega (arith, fresh)) h);
+            (apart_of S laws u x.num x.src x.dst x.keep may.src may.dst may.other) (shown_rest S laws u w n owner d l g (omega (arith, may.fresh)) h);
         order = o;
         flag_is = f;
         handed = λ _ e. let never : true ≡ false = e in cc;
@@ -114,8 +113,7 @@ module _ {R : Type 0} (S : Sys R) (laws : IsSys S) (u : Unit) where
       let few = (each_found (λ y. y.op.num < w.next) op.num w.ops e g.ops there) in
       let same : e.op.num ≡ op.num = (Decides-eqb e.op.num op.num).0 few.1 in
       let less : e.op.num < w.next = few.0 in
-      let fresh = may.fresh in
-      let off : (x.num == op.num) ≡ false = grind (arith, nat_tests, same, less, fresh) in
+      let off : (x.num == op.num) ≡ false = grind (arith, nat_tests, same, less, may.fresh) in
       let lab : S.takes e.filter u ≡ (e.op.num == op.num) = (each_found (OpLabel S (see S laws u op third)) op.num w.ops e h.ops there).0.0 in
       let out : S.takes x.filter u ≡ false = false_from_ne_true (S.takes x.filter u)
       (λ on. let never : false ≡ true = sym (any_tells x.filter w.ops op.num e may.apart there on) ∙ lab ∙ few.1 in cc) in

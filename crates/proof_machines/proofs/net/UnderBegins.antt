@@ -51,17 +51,15 @@ module _ {R : Type 0} (S : Sys R) (A : Sharing S) (z : SeeingShare) (w : WholeWo
   -- another share
   pub under_begin_share : GlobalAll S A w → (x : ShareAsked) → w.next ≤ x.num → Goes_on S A z u.stage (begin_share S A w x) before since
   under_begin_share g x fresh =
-      let off = new_num g x.num fresh in
       put_unseen w.ops (w.shares ++ new_share x ∷ []) (suc x.num) 1 ((0, New (ShareMsg.Install x.num x.filter x.home)) ∷ []) [] refl
-      (λ j. lone_unseen S A z 0 j (New (ShareMsg.Install x.num x.filter x.home)) (λ r. rw off refl)) (find_more w.shares (new_share x) z.num
+      (λ j. lone_unseen S A z 0 j (New (ShareMsg.Install x.num x.filter x.home)) (λ r. rw (new_num g x.num fresh) refl)) (find_more w.shares (new_share x) z.num
       (as_share S A z (shape (unit_share S A z) u.stage).phase (shape (unit_share S A z) u.stage).queue) u.holds.share ∙ sym u.holds.share) u.ops tt
 
   -- a copy's Get
   pub under_get : GlobalAll S A w → (n : ℕ) (h : Filter) (src : ℕ) → w.next ≤ n → Goes_on S A z u.stage (puts_get S A w n h src) before since
   under_get g n h src fresh =
-      let off = new_num g n fresh in
       put_unseen w.ops w.shares (suc n) 1 ((src, New (ShareMsg.Get n h)) ∷ []) [] refl
-          (λ j. lone_unseen S A z src j (New (ShareMsg.Get n h)) (λ r. rw off refl)) refl
+          (λ j. lone_unseen S A z src j (New (ShareMsg.Get n h)) (λ r. rw (new_num g n fresh) refl)) refl
       u.ops tt
 
   -- a command for a move, and one for a share

@@ -227,8 +227,7 @@ module _ {R : Type 0} (S : Sys R) (A : Sharing S) (z : SeeingShare) where
         (before ++ (if (shape (f S A z) u.stage).diverts then [] else if_mine (f S A z) q))
         (since ++ (if (shape (f S A z) u.stage).diverts then if_mine (f S A z) q else []))
     under_input w before since u q =
-        let two = u.insts z.home u.is.home_in in
-        let apart : (1 == z.home) ≡ false = grind (arith, nat_tests, two) in
+        let apart : (1 == z.home) ≡ false = grind (arith, nat_tests, u.insts z.home u.is.home_in) in
         let sends = arrive_sends S A (w.target (S.packet_unit q)) q in
         leads_to S A z u.stage (whole_input S A w q) (its_early u.stage q) (its_late u.stage q) (before ++ its_early u.stage q)
         (since ++ its_late u.stage q) u.is

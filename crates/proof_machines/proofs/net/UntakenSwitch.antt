@@ -133,11 +133,10 @@ module _ {R : Type 0} (S : Sys R) (A : Sharing S) (laws : IsSys S) (u : Unit) wh
       by_target : (b : Bool) → (w.target (S.packet_unit q) == 1) ≡ b
           → Unshared S A laws u (whole_input S A w q) (ps ++ (if same_unit (S.packet_unit q) u then q ∷ [] else [])) c
       by_target true on =
-          let two = where_two S laws u (moves_of S A w) ps c h.is in
           let one : w.target (S.packet_unit q) ≡ 1 = (Decides-eqb (w.target (S.packet_unit q)) 1).0 on in
           let other : same_unit (S.packet_unit q) u ≡ false = false_from_ne_true (same_unit (S.packet_unit q) u)
           (λ its. let there : w.target u ≡ 1 = ap w.target (sym (same_unit-true (S.packet_unit q) u its)) ∙ one in
-          let never : ⊥ = omega (arith, two, there) in absurd never) in
+          let never : ⊥ = omega (arith, where_two S laws u (moves_of S A w) ps c h.is, there) in absurd never) in
           let all : ps ++ (if same_unit (S.packet_unit q) u then q ∷ [] else []) ≡ ps = rw other (append-nil ps) in
           let none : old_sends sends ≡ [] = rw on refl in
           record {

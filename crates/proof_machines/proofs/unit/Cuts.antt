@@ -74,9 +74,7 @@ cut_fits v total newest (c ∷ cs) o some e = record { one = all_records v total
 
 pub chopped_fits : {R : Type 0} (v : Frame) (total newest n : ℕ) (xs : Chunks R) (o : Option R) → all_at v.unit xs ≡ option_to_list o
     → ArePiecesOf (map (see v) (marks total newest (chop n xs))) o
-chopped_fits v total newest n xs o e =
-    let same = joined-chop n xs in
-    cut_fits v total newest (chop n xs) o (is_nil-chop n xs) (rw same e)
+chopped_fits v total newest n xs o e = cut_fits v total newest (chop n xs) o (is_nil-chop n xs) (rw (joined-chop n xs) e)
 
 abbrev piece_message : {R : Type 0} → ℕ → MovePiece R → MoveMsg R
 piece_message n p = MoveMsg.Piece n p

@@ -14,20 +14,15 @@ one_way o a live way (Twice r _ _ _ e) = rw e (omega arith)
 -- what comes from B, what isn't free yet, what is free
 six : {R : Type 0} (a b c d e f : List R) → length c + (length b + length e) ≤ length (a ++ (b ++ (c ++ (d ++ (e ++ f)))))
 six a b c d e f =
-    let p = length-append a (b ++ (c ++ (d ++ (e ++ f)))) in
-    let q = length-append b (c ++ (d ++ (e ++ f))) in
-    let r = length-append c (d ++ (e ++ f)) in
     let s = length-append d (e ++ f) in
-    let t = length-append e f in
-    omega (arith, p, q, r, s, t)
+    omega (arith, length-append a (b ++ (c ++ (d ++ (e ++ f)))), length-append b (c ++ (d ++ (e ++ f))), length-append c (d ++ (e ++ f)), s, length-append e f)
 
 pub few_records : {R : Type 0} (F : Steps R) (s : UnitSeat F)
     → length (records_on (seat_shape F s).bc) + (length (frozen_in (seat_shape F s).phase) + length (free_in (seat_shape F s).phase)) ≤ 1
 few_records F s =
     let x = seat_shape F s in
-    let most = one_way _ _ _ _ (seat_kept F s) in
     let part = six (records_on x.ac) (frozen_in x.phase) (records_on x.bc) (records_on x.cb) (free_in x.phase) (records_on x.ca) in
-    omega (arith, most, part)
+    omega (arith, one_way _ _ _ _ (seat_kept F s), part)
 
 -- with the record in the first message
 pub records_head : {R : Type 0} (it : Item R) (v xs : List (Item R)) → it ∷ v ≡ xs → length (option_to_list (record_in it)) ≤ length (records_on xs)

@@ -110,8 +110,7 @@ module _ (o : Op) (mine : ℕ → Bool) (u : Unit) where
     to_switch : (phase : MovePhase R) (f : List ℕ) (m : MoveMsg R) (x : Item R) → seen v m ≡ Some x → Sees v
         (operation_turn phase f ((0, m) ∷ [])) (record (goes (see_phase v phase) (only_mine v f)) { to_s = x ∷ [] })
     to_switch phase f m x e =
-        let a = t.0_src in
-        let b = t.0_dst in record { phase = refl; store = refl; to_a = rw a refl; to_b = rw b refl; to_s = rw e refl; others = λ j fj tj zj. rw zj refl }
+        let b = t.0_dst in record { phase = refl; store = refl; to_a = rw t.0_src refl; to_b = rw b refl; to_s = rw e refl; others = λ j fj tj zj. rw zj refl }
 
     by_num : (x : Item R) → where_true (o.num == o.num) x ≡ Some x
     by_num x = let n = t.num in rw n refl
@@ -182,10 +181,9 @@ module _ (o : Op) (mine : ℕ → Bool) (u : Unit) where
         let a = t.0_src in
         let b = t.0_dst in record { phase = refl; store = refl; to_a = rw a refl; to_b = rw b refl; to_s = rw off refl; others = λ j fj tj zj. rw zj refl }
     event_other phase f p off =
-        let e = filter-append mine f (p ∷ []) in
         record {
           phase = refl;
-          store = rw (e, off) (append-nil (only_mine v f));
+          store = rw (filter-append mine f (p ∷ []), off) (append-nil (only_mine v f));
           to_a = refl;
           to_b = refl;
           to_s = refl;

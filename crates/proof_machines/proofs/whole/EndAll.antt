@@ -35,7 +35,6 @@ module _ {R : Type 0} (S : Sys R) (A : Sharing S) (laws : IsSys S) (u : Unit) (n
         let z = seeing S A u x in
         let f = unit_share S A z in
         let r = under_rests S A z w before k.diverted h n some few quiet in
-        let home = self x.home in
         let all = (λ (j : ℕ). ap (runs S.F None) (r.seen j ∙ sym (all_done S A z w before k.diverted h)) ∙ fold_done S A laws u None w.done) in
         record {
           its = record { found = h.holds.share; takes = h.covered; home_in = h.is.home_in };
@@ -45,7 +44,7 @@ module _ {R : Type 0} (S : Sys R) (A : Sharing S) (laws : IsSys S) (u : Unit) (n
           order = order_same b (before ++ k.diverted) (done_u S u w.done) k.all
               (sym (under_order S A z w before k.diverted h) ∙ ap (λ v. done_u S u w.done ++ v) r.path ∙ append-nil (done_u S u w.done)) o;
           flag_is = i;
-          live = (rw home at (h.holds.own x.home h.is.home_in)) ∙ own_is f h.stage x.home ∙ all x.home;
+          live = (rw (self x.home) at (h.holds.own x.home h.is.home_in)) ∙ own_is f h.stage x.home ∙ all x.home;
           standby = λ j inside off. (rw off at (h.holds.own j inside)) ∙ own_is f h.stage j ∙ all j;
         }
 

@@ -60,11 +60,10 @@ module _ {R : Type 0} (S : Sys R) (A : Sharing S) (laws : IsSys S) (u : Unit) wh
   records_all w k g (Apart_from_shares h none) = By_moves (record_of S laws u (moves_of S A w) k.all k.bared g.moves h.is)
   records_all w k g (Under_share x before b h o f) =
       let r = under_records S A (seeing S A u x) w before k.diverted h in
-      let home = self x.home in
       By_share (its_share w x before k.diverted h) (record {
         its = record { found = h.holds.share; takes = h.covered; home_in = h.is.home_in };
         seen = r.seen;
-        live = rw home at (r.own x.home h.is.home_in);
+        live = rw (self x.home) at (r.own x.home h.is.home_in);
         standby = λ n inside off. rw off at (r.own n inside);
         fronts = r.fronts;
         lacks = r.live;

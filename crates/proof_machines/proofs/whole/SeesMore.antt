@@ -90,8 +90,7 @@ module _ {R : Type 0} (S : Sys R) (A : Sharing S) (laws : IsSys S) (u : Unit) wh
         inside : (n == x.num) ≡ true → has x.members y ≡ true
         inside on =
             let members = to_members f h.is h.stage h.fits in
-            let flag = label.0 on in
-            let sees : share_seen S A z y (New (ShareMsg.Sync n false cs)) ≡ Some (Sync (record_at u cs)) = rw (on, flag) refl in
+            let sees : share_seen S A z y (New (ShareMsg.Sync n false cs)) ≡ Some (Sync (record_at u cs)) = rw (on, label.0 on) refl in
             let head = ap (λ o. add o left) (sym sees)
                 ∙ heads S A laws z w (shape f h.stage) h.holds members y p (New (ShareMsg.Sync n false cs)) rest y0 y1 waits in
             by_link (inst_from S A laws z w (shape f h.stage) h.holds members y p (New (ShareMsg.Sync n false cs)) rest y0 y1 waits (Sync (record_at u cs))

@@ -56,8 +56,7 @@ module _ {R : Type 0} (S : Sys R) (A : Sharing S) (laws : IsSys S) (u : Unit) wh
   -- a unit whose packets go to the controller is taken by a share
   pub diverted_all : (w : WholeWorld S A) (k : Came) → WhereAll w k → w.target u ≡ 1 → TakesSome S w.shares u
   diverted_all w k (Apart_from_shares h none) one =
-      let two = where_two S laws u (moves_of S A w) k.all k.bared h.is in
-      let never : ⊥ = omega (arith, two, one) in
+      let never : ⊥ = omega (arith, where_two S laws u (moves_of S A w) k.all k.bared h.is, one) in
       absurd never
   diverted_all w k (Under_share x before b h o f) one =
       let z = seeing S A u x in

@@ -91,8 +91,7 @@ module _ {F R : Type 0} (setting : Setting F R) where
     controller_is = λ d. refl;
     few = λ op.
         let all = opening_weight Note (first_nodes {F = F} {R = R} alloc c) items (keeps_of op) in
-        let none = items_light op items (all_labelled setting) in
-        omega (arith, all, none);
+        omega (arith, all, items_light op items (all_labelled setting));
   }
 
   -- but for the input nothing waits
@@ -103,8 +102,7 @@ module _ {F R : Type 0} (setting : Setting F R) where
   pub beside_at_start : HasBeside f given_so (length c.names + 2) (start setting) (start_joined setting)
   unfolding tokens_at_start
   beside_at_start =
-      let some = is.is_config.some in
-      let low : 1 < length c.names + 2 = omega (arith, some) in
+      let low : 1 < length c.names + 2 = omega (arith, is.is_config.some) in
       let same = token_controller f given_so (length c.names + 2) (start setting) (start_joined setting) low
       tokens_at_start in
       record {

@@ -76,12 +76,10 @@ module _ {F R : Type 0} (f : Semantics R) (g : Given) (n : ℕ) (x : Scene F f g
 
     share_is : IsShare f g cmd.op (share.share_at_start plan)
     share_is =
-        let many = known.many in
-        let two = two_names in
         record {
           op_is = refl;
           few = subst (Each (λ member. nat_lt member (count f g) ≡ true)) known.instances (few_placed g.names (name ∷ others));
-          some = omega (arith, many, two);
+          some = omega (arith, known.many, two_names);
           distinct = subst (IsDistinct ◌==◌) known.instances (all_apart g.names (name ∷ others) once);
           whole = (and_parts (is_whole f.kind filter) _ its_built).0;
           plan = record { names = name ∷ others; order_is = is.label.2.known ∙ ap Some what; members_are = known.instances; site_is = are.controller.site };

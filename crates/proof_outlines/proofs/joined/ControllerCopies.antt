@@ -134,9 +134,8 @@ module _ {F R : Type 0} (f : Semantics R) (g : Given) (n : ℕ) (x : Scene F f g
   hidden_share : (op : ℕ) → shown f g m ≡ None → Did (hand_step c op p m) → (s : ShareState) → finite.get c.operations op ≡ Some (Share s)
       → RowLeads f g x p m (hand_step c op p m)
   hidden_share op hidden step s there =
-      let below = share_below f g n x p m are is op s there in
       well_idles f g n x p m are is op (hand_step c op p m) step (subst NotMove (sym there) tt)
-      (λ least. (let never : ⊥ = omega (arith, below, least) in absurd never))
+      (λ least. (let never : ⊥ = omega (arith, share_below f g n x p m are is op s there, least) in absurd never))
       (share_handed_well f g c op s there (are.controller.shared op s there) (are.controller.genuine op) p m is.label)
       (λ a e. let never : None ≡ Some a = sym hidden ∙ e in cc)
 

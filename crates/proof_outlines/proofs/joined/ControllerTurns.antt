@@ -119,9 +119,8 @@ module _ {F R : Type 0} (f : Semantics R) (g : Given) (n : ℕ) (x : Scene F f g
   pub share_leads : (op : ℕ) (s : ShareState) → finite.get c.operations op ≡ Some (Share s) → (a : Any R) → shown f g m ≡ Some a
       → StepFollows f g.site g.packet (place g) (hand_step c op p m) (On a) → (On a).ops ≡ x.world.ops → RowLeads f g x p m (hand_step c op p m)
   share_leads op s there a seen follows same =
-      let below = share_below op s there in
       well_leads op (hand_step c op p m) a seen follows same (subst NotMove (sym there) tt)
-      (λ least. (let never : ⊥ = omega (arith, below, least) in absurd never))
+      (λ least. (let never : ⊥ = omega (arith, share_below op s there, least) in absurd never))
       (share_handed_well f g c op s there (are.controller.shared op s there) (are.controller.genuine op) p m is.label)
 
   -- A message of moves, of a number.
@@ -295,12 +294,10 @@ module _ {F R : Type 0} (f : Semantics R) (g : Given) (n : ℕ) (x : Scene F f g
   its_port : instance_at x.nodes.controller p ≡ Some (p - 2)
   its_port =
       let two = is.label.0.0 in
-      let count_is = is.count_is in
-      let sender = is.sender in
       let named : length x.nodes.controller.names ≡ count f g = ap length are.controller.names in
       let low : nat_le 2 p ≡ true = grind (arith, nat_tests, two) in
       let high : nat_lt (p - 2) (length x.nodes.controller.names) ≡ true = (Decides-ltb (p - 2) (length x.nodes.controller.names)).1
-      (omega (arith, named, two, count_is, sender)) in
+      (omega (arith, named, two, is.count_is, is.sender)) in
       rw (low, high) refl
 
   never : find_op x.world.ops op ≡ None → ⊥

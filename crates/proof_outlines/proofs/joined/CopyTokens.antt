@@ -75,11 +75,9 @@ module _ {F R : Type 0} (f : Semantics R) (g : Given) (count : ℕ) (w : Network
         controller = h.controller;
         controller_is = λ d. left.others 1 d (omega arith) ∙ h.controller_is d;
         few = λ n.
-            let weight = total_after (node_step f) count w 0 p (node_of j.nodes 0) m rest takes (keeps_of n) in
             let most = sent_most n count 0 (switch_step j.nodes.switch m).sends in
             let none = switch_sends_none f g n (switch_step j.nodes.switch m).sends labels in
-            let before = h.few n in
-            omega (arith, weight, most, none, before);
+            omega (arith, total_after (node_step f) count w 0 p (node_of j.nodes 0) m rest takes (keeps_of n), most, none, h.few n);
       }
   tokens_after (suc zero) p m rest takes labels h =
       let c = j.nodes.controller in
@@ -89,12 +87,10 @@ module _ {F R : Type 0} (f : Semantics R) (g : Given) (count : ℕ) (w : Network
         controller = (controller_step c p m).node;
         controller_is = left.own;
         few = λ n.
-            let weight = total_after (node_step f) count w 1 p (node_of j.nodes 1) m rest takes (keeps_of n) in
             let most = sent_most n count 1 (controller_step c p m).sends in
-            let falls = controller_falls n c p numbered m in
             let before : total (keeps_of n) w ≤ keeping (finite.get c.operations n) =
             subst (λ x. total (keeps_of n) w ≤ keeping (finite.get x.operations n)) same (h.few n) in
-            omega (arith, weight, most, falls, before);
+            omega (arith, total_after (node_step f) count w 1 p (node_of j.nodes 1) m rest takes (keeps_of n), most, controller_falls n c p numbered m, before);
       }
   tokens_after (suc (suc i)) p m rest takes labels h =
       let left = taken_outcome (node_step f) count w (suc (suc i)) p (node_of j.nodes (suc (suc i))) m rest takes in
@@ -103,10 +99,8 @@ module _ {F R : Type 0} (f : Semantics R) (g : Given) (count : ℕ) (w : Network
         controller_is = λ d. left.others 1 d (omega arith) ∙ h.controller_is d;
         few = λ n.
             let weight = total_after (node_step f) count w (suc (suc i)) p (node_of j.nodes (suc (suc i))) m rest takes (keeps_of n) in
-            let most = sent_most n count (suc (suc i)) (instance_step f (j.nodes.instance (suc (suc i))) m).sends in
             let falls = instance_falls f n (j.nodes.instance (suc (suc i))) m in
-            let before = h.few n in
-            omega (arith, weight, most, falls, before);
+            omega (arith, weight, sent_most n count (suc (suc i)) (instance_step f (j.nodes.instance (suc (suc i))) m).sends, falls, h.few n);
       }
 
   -- where such a message is taken its copy is open

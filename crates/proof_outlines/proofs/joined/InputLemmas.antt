@@ -27,12 +27,9 @@ module _ {X : Type 0} (key : X → ℕ) where
 
 pub fits_flow : (flow : Flow) → IsFlow flow → flow_fits flow ≡ true
 fits_flow flow h =
-    let a = (Decides-ltb flow.proto (2 ^ 8)).1 h.proto in
-    let b = (Decides-ltb flow.local (2 ^ 32)).1 h.local in
-    let c = (Decides-ltb flow.lport (2 ^ 16)).1 h.lport in
     let d = (Decides-ltb flow.remote (2 ^ 32)).1 h.remote in
     let e = (Decides-ltb flow.rport (2 ^ 16)).1 h.rport in
-    rw (a, b, c, d, e) refl
+    rw ((Decides-ltb flow.proto (2 ^ 8)).1 h.proto, (Decides-ltb flow.local (2 ^ 32)).1 h.local, (Decides-ltb flow.lport (2 ^ 16)).1 h.lport, d, e) refl
 
 fits_number : (top : ℕ) (o : Option ℕ) → ForSome o (λ n. n < top) → number_fits top o ≡ true
 fits_number top None h = refl
@@ -44,12 +41,8 @@ fits_prefix (Some p) h = (Decides-ltb p.bits (2 ^ 32)).1 (h p refl)
 
 pub fits_filter : (g : Filter) → IsFilter g → filter_fits g ≡ true
 fits_filter g h =
-    let a = fits_number (2 ^ 8) g.proto h.proto in
-    let b = fits_prefix g.local h.local in
-    let c = fits_number (2 ^ 16) g.lport h.lport in
-    let d = fits_prefix g.remote h.remote in
     let e = fits_number (2 ^ 16) g.rport h.rport in
-    rw (a, b, c, d, e) refl
+    rw (fits_number (2 ^ 8) g.proto h.proto, fits_prefix g.local h.local, fits_number (2 ^ 16) g.lport h.lport, fits_prefix g.remote h.remote, e) refl
 
 alone_of : (hosts a b c d : Bool) → hosts && (a || b || c || d) ≡ false → not hosts || not (a || (b || (c || d))) ≡ true
 alone_of false a b c d h = refl
@@ -61,7 +54,6 @@ alone_of true false false false true h = cc
 
 pub whole_is : (kind : Kind) (g : Filter) → IsWhole kind g → is_whole kind g ≡ true
 whole_is kind g h =
-    let fits = fits_filter g h.numbers in
     let remote = some_same Rattle.flow_filter.specs.Reading.prefix_numbers g.remote in
     let more : has_hosts kind && (is_some g.proto || is_some g.lport || is_some g.remote || is_some g.rport) ≡ false = rw remote at h.whole in
-    rw fits (alone_of (has_hosts kind) (is_some g.proto) (is_some g.lport) (is_some g.remote) (is_some g.rport) more)
+    rw (fits_filter g h.numbers) (alone_of (has_hosts kind) (is_some g.proto) (is_some g.lport) (is_some g.remote) (is_some g.rport) more)

@@ -35,9 +35,8 @@ module _ {R : Type 0} (S : Sys R) (A : Sharing S) (laws : IsSys S) (w : WholeWor
         by_where k (Apart_from_shares h none) =
             one_copy_back S laws (moves_of S A w) every.global.moves u k.all k.bared h.is n e there g why cs (olds rest) (ap olds waits)
         by_where k (Under_share x before b h o f) =
-            let a = no_copies S A (seeing S A u x) w before k.diverted h n e there in
             let c = none_back S A (seeing S A u x) w before k.diverted h e.op.dst n g why cs rest waits in
-            omega (arith, a, c)
+            omega (arith, no_copies S A (seeing S A u x) w before k.diverted h n e there, c)
 
   -- an event is one of an open move
   pub event_open_all : (i n p : ℕ) (g : Filter) (rest : List (Any R)) → w.link i 1 ≡ Old (Of_move g (MoveMsg.Event n p)) ∷ rest → find_op w.ops n ≡ None → ⊥

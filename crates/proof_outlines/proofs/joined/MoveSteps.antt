@@ -50,11 +50,7 @@ module _ {R : Type 0} (f : Semantics R) (g : Given) where
   times_end : (u : Unit) (ps : List Piece) (p : Piece)
       → times u (entries f (chunks_of (ps ++ p ∷ []))) ≡ times u (entries f (chunks_of ps)) + times u (entries f p.chunks)
   times_end u [] p = let both = times_both u p.chunks [] in omega (arith, both)
-  times_end u (q ∷ ps) p =
-      let rest = times_end u ps p in
-      let first = times_both u q.chunks (chunks_of (ps ++ p ∷ [])) in
-      let second = times_both u q.chunks (chunks_of ps) in
-      omega (arith, rest, first, second)
+  times_end u (q ∷ ps) p = omega (arith, times_end u ps p, times_both u q.chunks (chunks_of (ps ++ p ∷ [])), times_both u q.chunks (chunks_of ps))
 
   -- whether a refusal is one, the door alone tells
   same_door : (a b c d : List Piece) (came since : Bool) (at : Door) → IsRefusing (phase.Streaming a c came at) → IsRefusing (phase.Streaming b d since at)
@@ -158,11 +154,7 @@ module _ {R : Type 0} (f : Semantics R) (g : Given) where
           push_is frozen (free ++ p ∷ []) came d (same_door (p ∷ frozen) frozen free (free ++ p ∷ []) came came d refusing) pieces.0.1
           (free_more d free p pieces.1 pieces.0.0)
           (λ u.
-          let all = once u in
-          let both = times_both u (chunks_of (p ∷ frozen)) (chunks_of free) in
-          let first = times_both u p.chunks (chunks_of frozen) in
-          let end = times_end u free p in
-          omega (arith, all, both, first, end))
+          omega (arith, once u, times_both u (chunks_of (p ∷ frozen)) (chunks_of free), times_both u p.chunks (chunks_of frozen), times_end u free p))
       deleted_is (phase.Streaming [] free came d) refusing pieces once = stays (phase.Streaming [] free came d) refusing pieces
       deleted_is ph refusing pieces once = stays ph refusing pieces
 
@@ -187,9 +179,7 @@ module _ {R : Type 0} (f : Semantics R) (g : Given) where
       put_ok_is (phase.Streaming frozen free came (Door.Asked last)) refusing pieces once =
           by_if (RowIs events) last (all_put_is plan.keep)
           (kept (push_on (words plan) frozen free came Door.Open) (push_is frozen free came Door.Open tt pieces.0 pieces.1 (λ u.
-          let all = once u in
-          let both = times_both u (chunks_of frozen) (chunks_of free) in
-          omega (arith, all, both))))
+          omega (arith, once u, times_both u (chunks_of frozen) (chunks_of free)))))
       put_ok_is (phase.Streaming frozen free came Door.Open) refusing pieces once = all_put_is plan.keep
       put_ok_is ph refusing pieces once = rests ph refusing pieces
 
@@ -197,10 +187,7 @@ module _ {R : Type 0} (f : Semantics R) (g : Given) where
           → ((u : Unit) → times u (entries f chunks) + times u (entries f (kept_in ph)) ≤ 1) → NextIs (on_put_no (words plan) ph why (put_back chunks))
       put_no_is (phase.Streaming frozen free came (Door.Asked last)) why chunks refusing pieces good refused once =
           push_is frozen (put_back chunks last ∷ free) came (Door.Refused why) refused pieces.0 (good, weaker free pieces.1) (λ u.
-          let all = once u in
-          let both = times_both u (chunks_of frozen) (chunks_of free) in
-          let back = times_both u chunks (chunks_of free) in
-          omega (arith, all, both, back))
+          omega (arith, once u, times_both u (chunks_of frozen) (chunks_of free), times_both u chunks (chunks_of free)))
       put_no_is ph why chunks refusing pieces good refused once = stays ph refusing pieces
 
       -- by the message

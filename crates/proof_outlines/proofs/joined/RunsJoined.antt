@@ -80,8 +80,7 @@ module _ {F R : Type 0} (setting : Setting F R) (n : ℕ) (w : Network (Node F R
 
   pub once : (u : Unit) (p : ℕ) → times p (processed_of f c items u w.log) ≤ times p (arrived_of f c items u w.log)
   once u p =
-      let whole = times-append p (processed_of f c items u w.log) (ordered u).waits in
       let same : times p (processed_of f c items u w.log ++ (ordered u).waits) ≡ times p (arrived_of f c items u w.log) =
       ap (λ xs. times p (xs ++ (ordered u).waits)) (sym (done_same u)) ∙ sym (same_times p (done_u (S f gj) u j.world.done ++ (ordered u).waits))
       ∙ (ordered u).same p ∙ same_times p (arrived_of f c items u w.log) in
-      omega (arith, whole, same)
+      omega (arith, times-append p (processed_of f c items u w.log) (ordered u).waits, same)

@@ -32,8 +32,7 @@ module _ (kind : Kind) where
       → first_match (opened rs) flow ≡ Some (Target.Instance (route rs (unit_of kind flow)))
   route_first [] flow whole fits = refl
   route_first (r ∷ rs) flow whole fits =
-      let same = whole_takes kind r.0 flow whole.0 fits in
-      rw same
+      rw (whole_takes kind r.0 flow whole.0 fits)
       (split (matches r.0 flow)
       (λ b. option_map (λ x. x.1) (if b then Some (r.0, Target.Instance r.1) else find (λ x. matches x.0 flow) (opened rs)) ≡ Some
       (Target.Instance (if b then r.1 else route rs (unit_of kind flow))))
@@ -94,8 +93,7 @@ module _ {F R : Type 0} (setting : Setting F R) where
       order_is (Order.Copy source destination (Some filter)) h =
           let apart = h.0 in let whole = whole_is f.kind filter (h.1 filter refl) in rw (whole, apart) refl
       order_is (Order.Share members filter) h =
-          let some = (Decides-ltb 1 (length members)).1 h.0.some in
-          let once = h.0.once in let whole = whole_is f.kind filter h.1 in rw (whole, some, once) refl
+          let once = h.0.once in let whole = whole_is f.kind filter h.1 in rw (whole, (Decides-ltb 1 (length members)).1 h.0.some, once) refl
 
   listed : Each (IsCommand f given) (commands items)
   listed = each_both found_command (commands items) (found_each (λ k. k.op) 0 (commands items) is.ops)
@@ -131,8 +129,7 @@ module _ {F R : Type 0} (setting : Setting F R) where
 
   route_is_there : (u : Unit) → nat_lt (route f.kind c.routes u) (length c.names) ≡ true
   route_is_there u =
-      let some = is.is_config.some in
-      route_there f.kind (length c.names) (omega (arith, some)) c.routes u (all_each (λ r. r.1 < length c.names) c.routes is.is_config.routes)
+      route_there f.kind (length c.names) (omega (arith, is.is_config.some)) c.routes u (all_each (λ r. r.1 < length c.names) c.routes is.is_config.routes)
 
   pub owners_are : (u : Unit) → unit_fits f.kind u ≡ true → routed u ≡ instance_node (first_owner u c.routes)
   owners_are u fits = ap instance_node (route_is f.kind u fits c.routes (whole_routes c.routes each_whole))

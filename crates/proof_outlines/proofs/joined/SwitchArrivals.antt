@@ -72,8 +72,7 @@ module _ {F R : Type 0} (f : Semantics R) (g : Given) (n : ℕ) (x : Scene F f g
         ≡ diverted_in g (is_of f g u) u [] x.log ++ (if x.world.target u == 1 then (if is_of f g u q.number then q.number ∷ [] else []) else []) =
         diverted_in-append g (is_of f g u) u [] x.log notes
         ∙ ap (λ v. diverted_in g (is_of f g u) u [] x.log ++ v) (sym (diverted_of u (is_of f g u q.number) refl)) in
-        let bared = loose_on f g n x are notes refl u in
-        rw (all, diverted, ← bared) refl
+        rw (all, diverted, ← loose_on f g n x are notes refl u) refl
 
   -- a packet of the input
   pub packet_leads : (q : Packet) (items : List Msg) → GenuinePacket f g q → has_room s ≡ true → x.input ≡ Msg.InPacket q ∷ items

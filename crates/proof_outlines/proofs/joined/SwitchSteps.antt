@@ -78,8 +78,7 @@ module _ {F R : Type 0} (f : Semantics R) (g : Given) (n : ℕ) (x : Scene F f g
       → Leads f g n x (record { node = 0; port = 1; message = Msg.Forward to (Mark.Pass op) cell })
       (as_node Switch (sends_to_instance s to (Msg.Carry (Mark.Pass op) cell)))
   passed_leads to op cell rest e genuine waits =
-      let is_there = there to e in
-      rw is_there (seen_step (Msg.Forward to (Mark.Pass op) cell) _ rest s ((instance_node to, Msg.Carry (Mark.Pass op) cell) ∷ []) [] x.world.target refl
+      rw (there to e) (seen_step (Msg.Forward to (Mark.Pass op) cell) _ rest s ((instance_node to, Msg.Carry (Mark.Pass op) cell) ∷ []) [] x.world.target refl
       waits refl (refl, tt) (((refl, omega arith), genuine), tt) are.switch (told_nothing _ (λ u h k from to e is _ _ _ _. cc)))
 
   shared_leads : (to op : ℕ) (home : Bool) (cell : FullCell) (rest : List (Any R)) → nat_lt to (count f g) ≡ true
@@ -87,16 +86,14 @@ module _ {F R : Type 0} (f : Semantics R) (g : Given) (n : ℕ) (x : Scene F f g
       → Leads f g n x (record { node = 0; port = 1; message = Msg.Forward to (Mark.Shared op home) cell })
       (as_node Switch (sends_to_instance s to (Msg.Carry (Mark.Shared op home) cell)))
   shared_leads to op home cell rest e genuine waits =
-      let is_there = there to e in
-      rw is_there (seen_step (Msg.Forward to (Mark.Shared op home) cell) _ rest s ((instance_node to, Msg.Carry (Mark.Shared op home) cell) ∷ []) []
+      rw (there to e) (seen_step (Msg.Forward to (Mark.Shared op home) cell) _ rest s ((instance_node to, Msg.Carry (Mark.Shared op home) cell) ∷ []) []
       x.world.target refl waits refl (refl, tt) (((refl, omega arith), genuine), tt) are.switch (told_nothing _ (λ u. tt)))
 
   fence_leads : (op to : ℕ) (rest : List (Any R)) → nat_lt to (count f g) ≡ true
       → x.world.link 1 0 ≡ Old (net.Of_move everything (MoveMsg.Fence_to op (instance_node to))) ∷ rest
       → Leads f g n x (record { node = 0; port = 1; message = Msg.FenceTo op to }) (as_node Switch (sends_to_instance s to (Msg.Fence op)))
   fence_leads op to rest e waits =
-      let is_there = there to e in
-      rw is_there (seen_step (Msg.FenceTo op to) _ rest s ((instance_node to, Msg.Fence op) ∷ []) [] x.world.target refl waits refl (refl, tt)
+      rw (there to e) (seen_step (Msg.FenceTo op to) _ rest s ((instance_node to, Msg.Fence op) ∷ []) [] x.world.target refl waits refl (refl, tt)
       ((refl, omega arith), tt) are.switch (told_nothing _ (λ u h k from to e is _ _ _ _. cc)))
 
   -- A change of the rules

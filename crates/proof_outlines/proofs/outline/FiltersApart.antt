@@ -98,11 +98,9 @@ local_takes g flow e =
     let a = not-true _ e in
     let b = or_r (is_some g.proto) _ a in
     let c = or_r (is_some g.lport) _ b in
-    let proto = none_is g.proto (or_l (is_some g.proto) _ a) in
-    let lport = none_is g.lport (or_l (is_some g.lport) _ b) in
     let remote = none_is g.remote (or_l (is_some g.remote) _ c) in
     let rport = none_is g.rport (or_r (is_some g.remote) _ c) in
-    rw (proto, lport, remote, rport) (alone (agrees holds g.local flow.local))
+    rw (none_is g.proto (or_l (is_some g.proto) _ a), none_is g.lport (or_l (is_some g.lport) _ b), remote, rport) (alone (agrees holds g.local flow.local))
 
 whole_hosts : (kind : Kind) (g : Filter) → has_hosts kind ≡ true → not (has_hosts kind) || local_alone g ≡ true → local_alone g ≡ true
 whole_hosts kind g hosts e = rw hosts at e

@@ -80,8 +80,7 @@ module _ {R : Type 0} (f : Semantics R) (site : Site) (packet : ℕ → Packet) 
       → after_packet f at live cell.packet ≡ process (sys f site packet) live (number cell)
   after_same live at cell is g =
       let stepped : Packet → Records R = λ p. finite.insert live (unit_at f.kind site p) (f.stepped site (finite.get live (unit_at f.kind site p)) p).kept in
-      let transport = g.transport in
-      let here : after_packet f at live cell.packet ≡ stepped cell.packet = rw (is, transport) refl in
+      let here : after_packet f at live cell.packet ≡ stepped cell.packet = rw (is, g.transport) refl in
       here ∙ ap stepped g.same
 
 module _ {F R : Type 0} (f : Semantics R) (site : Site) (packet : ℕ → Packet) (place : List ℕ → Option ℕ) where

@@ -79,8 +79,7 @@ module _ (place : List ℕ → Option ℕ) where
         by_test : (m : IsMore other names nodes) (b : Bool) → (instance_node i == instance_node m.instance) ≡ b → has m.others (instance_node i) ≡ false
             → (if instance_node i == instance_node m.instance then true else has m.others (instance_node i)) ≡ false
         by_test m true same rest =
-            let nodes_same = (Decides-eqb (instance_node i) (instance_node m.instance)).0 same in
-            let i_is : m.instance ≡ i = omega (arith, nodes_same) in
+            let i_is : m.instance ≡ i = omega (arith, (Decides-eqb (instance_node i) (instance_node m.instance)).0 same) in
             let never : bytes_eq name other ≡ true = tells name other i at (m.placed ∙ ap Some i_is) in
             let off = apart.0 in
             cc

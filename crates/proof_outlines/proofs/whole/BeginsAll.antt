@@ -22,8 +22,7 @@ members_real place [] nodes e = let same : [] ≡ nodes = cc in sym same
 members_real place (name ∷ names) nodes e =
     let m = is_more place name names nodes e in
     let rest = members_real place names m.others m.rest in
-    let placed = m.placed in
-    m.nodes_are ∙ ap (λ xs. instance_node m.instance ∷ xs) rest ∙ (rw placed refl)
+    m.nodes_are ∙ ap (λ xs. instance_node m.instance ∷ xs) rest ∙ (rw m.placed refl)
 
 -- what a copy asks for, as the network with shares sees it
 abbrev pub copy_sends : {R : Type 0} → ℕ → ℕ → Option Filter → List (ℕ × Any R)

@@ -71,10 +71,8 @@ module _ {F R : Type 0} (x : Failover F R) (left : IsLeft x) where
 
   number_is : (n : ℕ) → is_in n (arrivals_in log) ≡ true → (numbered all n).number ≡ n
   number_is n there =
-      let some = some_in n (arrivals_in log) there in
-      let whole = ap (times n) left.promises.in_turn.whole in
       let both = times-append n (arrivals_in log) left.promises.in_turn.rest in
-      has_number n all (omega (arith, some, whole, both))
+      has_number n all (omega (arith, some_in n (arrivals_in log) there, ap (times n) left.promises.in_turn.whole, both))
 
   pub numbers_are : (ns : List ℕ) → HaveCome ns → numbers (with_numbers ns) ≡ ns
   numbers_are [] come = refl
@@ -148,15 +146,10 @@ module _ {F R : Type 0} (x : Failover F R) (left : IsLeft x) where
       times_waits : (p : ℕ) (b : Bool) → is_in p went ≡ b → times p went + times p waits ≡ times p came
       times_waits p true is =
           let off : is_in p waits ≡ false = ap (is_in p) waits_are ∙ in_filter p (λ n. not (is_in n went)) came ∙ ap (λ b. not b && is_in p came) is in
-          let none = none_times p waits off in
-          let some = some_in p went is in
-          let few = left.promises.once u p in
-          let one = once_came p in
-          omega (arith, none, some, few, one)
+          omega (arith, none_times p waits off, some_in p went is, left.promises.once u p, once_came p)
       times_waits p false is =
-          let none = none_times p went is in
           let same = ap (times p) waits_are ∙ times_filter (λ n. not (is_in n went)) p (ap not is) came in
-          omega (arith, none, same)
+          omega (arith, none_times p went is, same)
 
       row_times : (p : ℕ) → times p row ≡ times p came
       row_times p = times-append p went waits ∙ times_waits p (is_in p went) refl
@@ -170,11 +163,7 @@ module _ {F R : Type 0} (x : Failover F R) (left : IsLeft x) where
       row_came : (n : ℕ) → is_in n row ≡ true → is_in n came ≡ true
       row_came n there = elim (is_in n came) as (λ b. is_in n came ≡ b → b ≡ true) [
         | true ↦ λ _. refl
-        | false ↦ λ off.
-            let none = none_times n came off in
-            let some = some_in n row there in
-            let same = row_times n in
-            absurd (omega (arith, none, some, same))
+        | false ↦ λ off. absurd (omega (arith, none_times n came off, some_in n row there, row_times n))
       ] refl
 
       have_come : HaveCome row

@@ -36,8 +36,7 @@ none_below p least [] up low = refl
 none_below p least (n ∷ ns) up low =
     let first = up.0 in
     let off : (p == n) ≡ false = grind (arith, nat_tests, low, first) in
-    let rest = none_below p n ns up.1 (omega (arith, first, low)) in
-    rw (off, rest) refl
+    rw (off, none_below p n ns up.1 (omega (arith, first, low))) refl
 
 -- nor one among numbers that rise from beyond it
 pub rising_above : (p least : ℕ) (ns : List ℕ) → IsRising least ns → p < least → times p ns ≡ 0

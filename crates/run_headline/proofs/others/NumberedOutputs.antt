@@ -47,8 +47,7 @@ module _ {X : Type 0} where
       let one : (if x.0 == x.0 then 1 else 0) + times x.0 (firsts xs) ≤ 1 = once x.0 in
       let first : 1 + times x.0 (firsts xs) ≤ 1 = rw own at one in
       let gone : times x.0 (firsts xs) ≡ 0 = omega (arith, first) in
-      let few = filter_few mine x.0 (firsts xs) in
-      let rest = passed x xs (filter mine (firsts xs)) (omega (arith, few, gone)) ∙ each_found mine xs (λ n. fewer n (once n)) in
+      let rest = passed x xs (filter mine (firsts xs)) (omega (arith, filter_few mine x.0 (firsts xs), gone)) ∙ each_found mine xs (λ n. fewer n (once n)) in
       elim (mine x.0) as (λ b. flat_map (λ n. beside n (x ∷ xs)) (cond b (x.0 ∷ filter mine (firsts xs)) (filter mine (firsts xs)))
       ≡ cond b (x ∷ filter (λ y. mine y.0) xs) (filter (λ y. mine y.0) xs)) [
         | true ↦ ap (λ b. cond b (x ∷ beside x.0 xs) (beside x.0 xs) ++ flat_map (λ n. beside n (x ∷ xs)) (filter mine (firsts xs))) own
@@ -63,5 +62,4 @@ module _ {X : Type 0} where
   pub sorted_beside : (xs : List (ℕ × X)) → ((n : ℕ) → times n (firsts xs) ≤ 1) → (n : ℕ) → beside n (sorted_by (λ x. x.0) nat_cmp xs) ≡ beside n xs
   sorted_beside xs once n =
       let few = numbered_times (λ x. x.0) n xs in
-      let one = once n in
-      one_stays (λ x. x.0) nat_cmp nat_cmp_total (λ x. x.0 == n) xs (omega (arith, few, one))
+      one_stays (λ x. x.0) nat_cmp nat_cmp_total (λ x. x.0 == n) xs (omega (arith, few, once n))

@@ -27,15 +27,10 @@ pub another_order : (ns ms : List ℕ) → ((p : ℕ) → times p ns ≡ times p
 another_order [] ms same = subst (IsPermutation []) (sym (none_in ms (λ p. sym (same p)))) (IsPermutation-refl [])
 another_order (n ∷ ns) ms same =
     let own = ap {B = ℕ} (λ b. if b then 1 else 0) (same_number n) in
-    let all = same n in
-    let at = stands n ms (omega (arith, own, all)) in
+    let at = stands n ms (omega (arith, own, same n)) in
     let others = at.front ++ at.back in
     let fewer : (p : ℕ) → times p ns ≡ times p others = (λ p.
-    let each = same p in
-    let whole = ap (times p) at.whole in
-    let parts = times-append p at.front (n ∷ at.back) in
-    let both = times-append p at.front at.back in
-    omega (arith, each, whole, parts, both)) in
+    omega (arith, same p, ap (times p) at.whole, times-append p at.front (n ∷ at.back), times-append p at.front at.back)) in
     subst (IsPermutation (n ∷ ns)) (sym at.whole)
     (IsPermutation-trans (n ∷ ns) (n ∷ others) (at.front ++ n ∷ at.back) (IsPermutation-cons n ns others (another_order ns others fewer))
     (IsPermutation-sym (at.front ++ n ∷ at.back) (n ∷ others) (IsPermutation-middle at.front n at.back)))

@@ -64,8 +64,7 @@ module _ {R : Type 0} (F : Type 0) (f : Semantics R) (laws : Laws f) (names : Li
   at_node : (k : ℕ) → k < job.members → slice_get w.nodes (k + 2) ≡ Some (Instance (x.member k))
   at_node k low =
       let shows = (reached F f laws names job w is).shows in
-      let count = shows.count in
-      slice_get-get_or w.nodes (k + 2) (Instance (x.member k)) (omega (arith, count, low)) ∙ ap Some (shows.member k low (Instance (x.member k)))
+      slice_get-get_or w.nodes (k + 2) (Instance (x.member k)) (omega (arith, shows.count, low)) ∙ ap Some (shows.member k low (Instance (x.member k)))
 
   module _ (u : units.Unit) where
     abbrev went : List ℕ

@@ -24,10 +24,7 @@ simulate_strong-ended-requires g c =
     (subst (λ (k : Kind). IsStrongJob k (sharing_for s scene)) (sym c.requires.0) c.requires.1.job)
 
 pub unreachable-requires : goal.unreachable-requires
-unreachable-requires g c =
-    let more = c.simulate_strong-ended.ensures.unfinished c.in-Err-Unfinished._step (search rules) in
-    let few = c.requires.1.few in
-    omega (arith, more, few)
+unreachable-requires g c = omega (arith, c.simulate_strong-ended.ensures.unfinished c.in-Err-Unfinished._step (search rules), c.requires.1.few)
 
 pub returns : goal.returns
 returns g c =

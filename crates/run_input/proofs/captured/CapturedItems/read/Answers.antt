@@ -27,9 +27,7 @@ returns-clause-steered g c =
 pub returns-clause-few : goal.returns-clause-few
 returns-clause-few g c =
     let handed = c.in_ok-end.ensures.steered in
-    let most = c.in_ok-end.ensures.few in
-    let counted = handed.counted in
-    subst (λ (ps : List Packet). length ps ≤ most_packets) (sym (handed.kept tt [] c.«open».ensures)) (omega (arith, most, counted))
+    subst (λ (ps : List Packet). length ps ≤ most_packets) (sym (handed.kept tt [] c.«open».ensures)) (omega (arith, c.in_ok-end.ensures.few, handed.counted))
 
 pub invariant_of-result : goal.invariant_of-result
 invariant_of-result g c =
