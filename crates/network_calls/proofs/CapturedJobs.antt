@@ -1,24 +1,19 @@
 -- The packets of a capture, and what the words say, are an update, and can be shared.
-use Rattle.std.proofs.Common.{◌≤◌, ◌<◌, ◌^◌, length, refl, arith, ◌≡◌, ℕ, ◌+◌, List, [], ◌∷◌, map, ap, ◌∙◌}
-use Rattle.std.specs.Prelude.{All}
+use Rattle.network_calls.proofs.Words.{◌≤◌, ◌<◌, length, refl, arith, ◌≡◌, ℕ, ◌+◌, List, [], ◌∷◌, map, ap, ◌∙◌, All, AreNumbered, published_view, strong_view}
+use Rattle.network_calls.proofs.Words.{IsUpdateJob, scene_of, update_for, Packet, sharing_for, sharing_scene}
+use Rattle.std.proofs.Common.{◌^◌}
 use Rattle.flow_filter.specs.Filter.{IsFilter}
 use Rattle.flow_filter.specs.Limits.{most_packets}
 use Rattle.trace_reader.specs.declared.trace.Trace.{Trace as Captured}
-use Rattle.trace_reader.specs.Records.{AreNumbered}
 use Rattle.command_words.specs.declared.request.Publishing.{Publishing}
 use Rattle.command_words.specs.Requests.{StrongAsked}
-use Rattle.command_words.specs.RequestViews.{published_view, strong_view}
 use Rattle.net_world.specs.Input.{IsSteered}
 use Rattle.call_files.specs.run_input.proofs.ScriptedOrders.{numbers_rise}
-use Rattle.two_phase.specs.Start.{IsUpdateJob}
-use Rattle.network_calls.specs.UpdateRuns.{scene_of, update_for}
 use Rattle.std.specs.List.{range_with_len}
-use Rattle.flow_filter.specs.declared.packet.Packet.{Packet}
 use Rattle.command_words.specs.declared.request.StrongRequest.{StrongRequest}
 use Rattle.strong_share.specs.Start.{job_of}
 use Rattle.call_files.specs.CaptureScenes.{CaptureScene}
 use Rattle.network_calls.specs.RunSteps.{CanShare}
-use Rattle.network_calls.specs.StrongRuns.{sharing_for, sharing_scene}
 
 -- the packets of a capture, and what the words say, are an update
 pub is_update : (asked : Publishing) (captured : Captured) → asked.site.inside.bits < 2 ^ 32 → IsFilter asked.filter → AreNumbered 1 captured.packets

@@ -1,34 +1,18 @@
 -- What is known of a failover, in the words of its command.
-use Rattle.std.proofs.Common.{◌≡◌, ℕ, List, take, Result, Ok, Err, refl, sym, ap, ◌∙◌, subst}
-use Rattle.std.specs.Prelude.{MatchResult}
-use Rattle.std.specs.declared.alloc.Global.{Global}
-use Rattle.nf_function.specs.Semantics.{Semantics}
+use Rattle.network_calls.proofs.Words.{◌≡◌, ℕ, List, Result, Ok, Err, refl, sym, ap, ◌∙◌, subst, MatchResult, Global, Semantics, Msg, Choice, FailAsked}
+use Rattle.network_calls.proofs.Words.{Config, job_of, started_with, AuditFault, Head, first_of, world_after, Subject, subject, Made, Status, OfKind, Scenario}
+use Rattle.network_calls.proofs.Words.{config_for, head_for, items_for, run_given, subject_for, audit_status, reports}
+use Rattle.std.proofs.Common.{take}
 use Rattle.record_table.specs.Table.{TableView}
-use Rattle.nf_msgs.specs.declared.msg.Msg.{Msg}
-use Rattle.actor_net.specs.declared.choice.Choice.{Choice}
-use Rattle.command_words.specs.Requests.{FailAsked}
-use Rattle.net_world.specs.declared.config.Config.{Config}
-use Rattle.net_world.specs.Jobs.{job_of}
-use Rattle.net_world.specs.Start.{started_with}
-use Rattle.run_headline.specs.nf_net.specs.declared.course.AuditFault.{AuditFault}
 use Rattle.run_headline.specs.nf_net.specs.declared.course.AuditFault.TheVariants as audit
-use Rattle.report_lines.specs.declared.heads.Head.{Head}
 use Rattle.run_headline.specs.standby_failover.specs.declared.promoted.Promoted.{Promoted}
-use Rattle.run_headline.specs.standby_failover.specs.Causes.{IsFailCause, IsReached, first_of, world_after}
+use Rattle.run_headline.specs.standby_failover.specs.Causes.{IsFailCause, IsReached}
 use Rattle.run_headline.specs.standby_failover.specs.Failover.{Failover, HasCaughtUp, IsLeft, IsPromoted, failover_of}
 use Rattle.run_headline.specs.standby_failover.specs.Lines.{failover_text}
-use Rattle.run_headline.specs.Subject.{Subject}
-use Rattle.run_headline.specs.Law.{subject}
 use Rattle.run_headline.specs.Failover.{HasFailHeadline}
 use Rattle.run_headline.proofs.others.FailedTexts.{failover_law}
-use Rattle.call_files.specs.declared.results.Made.{Made}
-use Rattle.call_files.specs.declared.status.Status.{Status}
 use Rattle.network_calls.specs.FailRuns.{HasFailover, IsFailover, failing_for}
-use Rattle.function_kinds.specs.Functions.{OfKind}
-use Rattle.call_files.specs.Scenarios.{Scenario}
-use Rattle.network_calls.specs.NetworkRuns.{config_for, head_for, items_for, run_given, subject_for}
-use Rattle.network_calls.specs.RunSteps.{IsNoFailoverAs, IsRefusedFailover, audit_status}
-use Rattle.call_files.specs.Phases.{reports}
+use Rattle.network_calls.specs.RunSteps.{IsNoFailoverAs, IsRefusedFailover}
 use Rattle.network_calls.proofs.RunLemmas.{same_subject}
 
 module _ {R : Type 0} (F : Type 0) (f : Semantics R) (asked : FailAsked) (g : Scenario) (alloc : Global) (config : Config) (items : List Msg)

@@ -1,3 +1,4 @@
+pub mod Words
 pub mod CapturedJobs
 pub mod FailLemmas
 pub mod LoggedNumbers

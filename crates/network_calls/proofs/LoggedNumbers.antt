@@ -1,26 +1,19 @@
 -- At the end of a run each packet of the input has one output in the log, and each command one answer.
-use Rattle.std.proofs.Common.{◌≡◌, ℕ, suc, ◌+◌, true, false, Option, Some, None, List, [], ◌∷◌, map, length, refl, sym, ap, ◌∙◌, arith}
-use Rattle.std.specs.Prelude.{if◌then◌else◌, ◌==◌, find, is_some, option_map, filter}
+use Rattle.network_calls.proofs.Words.{◌≡◌, ℕ, ◌+◌, true, false, Option, Some, None, List, [], ◌∷◌, map, length, refl, sym, ap, ◌∙◌, arith, if◌then◌else◌}
+use Rattle.network_calls.proofs.Words.{find, option_map, nat_tests, Semantics, Msg, Note, Kind, Network, Config, Node, IsInput, commands, packets, answer_in}
+use Rattle.network_calls.proofs.Words.{Completed, Promises, by_number, output_in}
+use Rattle.std.proofs.Common.{suc}
+use Rattle.std.specs.Prelude.{◌==◌, is_some, filter}
 use Rattle.std.specs.List.{filter_map}
-use Rattle.std.proofs.lemmas.Bool.Decides.{nat_tests}
 use Rattle.std.proofs.lemmas.List.{length-map}
-use Rattle.nf_function.specs.Semantics.{Semantics}
 use Rattle.nf_msgs.specs.declared.command.Command.{Command}
 use Rattle.nf_msgs.specs.declared.command.Order.{Order}
-use Rattle.nf_msgs.specs.declared.msg.Msg.{Msg}
-use Rattle.nf_msgs.specs.declared.note.Note.{Note}
-use Rattle.nf_function.specs.declared.kind.Kind.{Kind}
-use Rattle.actor_net.specs.Network.{Network}
-use Rattle.net_world.specs.declared.config.Config.{Config}
-use Rattle.net_world.specs.declared.node.Node.{Node}
 use Rattle.net_world.specs.Commands.{answers_of}
 use Rattle.net_world.specs.Fold.{times}
-use Rattle.net_world.specs.Input.{IsInput, IsRising, commands, ends_last, order_numbered, packets}
-use Rattle.net_world.specs.Log.{answer_in, answers_in}
+use Rattle.net_world.specs.Input.{IsRising, ends_last, order_numbered}
+use Rattle.net_world.specs.Log.{answers_in}
 use Rattle.net_world.proofs.NumberCounts.{numbered_times}
-use Rattle.run_headline.specs.nf_net.specs.Promises.{Completed, Promises}
 use Rattle.run_headline.specs.nf_net.proofs.PacketCounts.{all_done}
-use Rattle.report_lines.specs.Lines.{by_number, output_in}
 use Rattle.run_headline.proofs.others.LoggedOutputs.{noted}
 use Rattle.run_headline.proofs.others.NumberedLines.{rising_above, rising_sorted}
 

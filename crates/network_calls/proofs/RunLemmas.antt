@@ -1,49 +1,24 @@
 -- What is known of a run of the network, in the words of its command.
-use Rattle.std.proofs.Common.{◌≡◌, ℕ, ◌<◌, true, List, map, length, Option, None, Some, Result, Ok, Err, refl, sym, ap, ◌∙◌, subst, arith}
-use Rattle.std.specs.Prelude.{MatchResult}
-use Rattle.std.specs.declared.alloc.Global.{Global}
-use Rattle.flow_filter.specs.declared.packet.Packet.{Packet}
-use Rattle.nf_function.specs.declared.kind.Kind.{Kind}
-use Rattle.nf_function.specs.Records.{Laws as FunctionLaws}
-use Rattle.nf_function.specs.Semantics.{Semantics}
-use Rattle.nf_msgs.specs.declared.msg.Msg.{Msg}
-use Rattle.nf_msgs.specs.declared.note.Note.{Note}
-use Rattle.command_words.specs.Requests.{NetworkAsked}
-use Rattle.actor_net.specs.declared.choice.Choice.{Choice}
-use Rattle.actor_net.specs.declared.schedule.Schedule.{Schedule}
-use Rattle.actor_net.specs.declared.schedule.TheConstants.{MOST_CHOICES}
-use Rattle.actor_net.specs.Network.{Network, is_done, run}
+use Rattle.network_calls.proofs.Words.{◌≡◌, ℕ, ◌<◌, true, List, map, length, Option, None, Some, Result, Ok, Err, refl, sym, ap, ◌∙◌, subst, arith}
+use Rattle.network_calls.proofs.Words.{MatchResult, Global, Packet, Kind, FunctionLaws, Semantics, Msg, Note, NetworkAsked, Choice, Schedule, MOST_CHOICES}
+use Rattle.network_calls.proofs.Words.{Network, run, Config, Node, IsInput, commands, packets, job_of, node_ended, node_step, Completed, Promises, LeadsTo}
+use Rattle.network_calls.proofs.Words.{choices_of, started_with, answer_in, AuditFault, Head, by_number, output_in, report_text, Subject, subject, Made}
+use Rattle.network_calls.proofs.Words.{Status, OfKind, Scenario, HasRun, IsRunOf, config_for, head_for, items_for, run_given, subject_for, audit_status, gives}
+use Rattle.network_calls.proofs.Words.{packets_in}
+use Rattle.actor_net.specs.Network.{is_done}
 use Rattle.journal_file.proofs.HeaderReads.{journal_again}
-use Rattle.net_world.specs.declared.config.Config.{Config}
-use Rattle.net_world.specs.declared.node.Node.{Node}
-use Rattle.net_world.specs.Input.{IsInput, commands, packets}
-use Rattle.net_world.specs.Jobs.{course_of, job_of}
-use Rattle.net_world.specs.Nodes.{node_ended, node_step}
-use Rattle.run_headline.specs.nf_net.specs.Promises.{Completed, Promises, Standbys, Verdicts}
-use Rattle.net_world.specs.Runs.{LeadsTo, choices_of}
-use Rattle.net_world.specs.Start.{started_with}
+use Rattle.net_world.specs.Jobs.{course_of}
+use Rattle.run_headline.specs.nf_net.specs.Promises.{Standbys, Verdicts}
 use Rattle.net_world.specs.Window.{AllHome}
-use Rattle.net_world.specs.Log.{answer_in}
-use Rattle.run_headline.specs.nf_net.specs.declared.course.AuditFault.{AuditFault}
 use Rattle.run_headline.specs.nf_net.specs.declared.course.AuditFault.TheVariants as audit
-use Rattle.report_lines.specs.declared.heads.Head.{Head}
 use Rattle.run_headline.specs.run_report.specs.Audits.{IsAuditCause}
-use Rattle.report_lines.specs.Lines.{by_number, output_in}
-use Rattle.run_headline.specs.run_report.specs.Lines.{report_text}
-use Rattle.run_headline.specs.Subject.{Subject}
 use Rattle.run_headline.specs.Text.{HasHeadline}
-use Rattle.run_headline.specs.Law.{IsCompleted, subject}
+use Rattle.run_headline.specs.Law.{IsCompleted}
 use Rattle.run_headline.proofs.ReportTexts.{reported}
-use Rattle.call_files.specs.declared.results.Made.{Made}
-use Rattle.call_files.specs.declared.status.Status.{Status}
-use Rattle.function_kinds.specs.Functions.{OfKind}
-use Rattle.call_files.specs.Scenarios.{Scenario}
-use Rattle.network_calls.specs.NetworkRuns.{HasRun, IsRunOf, config_for, head_for, items_for, run_given, subject_for}
-use Rattle.network_calls.specs.RunSteps.{IsRefusedAs, IsRefusedRun, audit_status}
-use Rattle.call_files.specs.Phases.{gives}
+use Rattle.network_calls.specs.RunSteps.{IsRefusedAs, IsRefusedRun}
 use Rattle.function_kinds.proofs.FunctionLemmas.{from_kind, of_kind}
 use Rattle.network_calls.proofs.LoggedNumbers.{answer_numbers, out_numbers}
-use Rattle.call_files.specs.run_input.proofs.SaidCommands.{end_is_last, packets_in}
+use Rattle.call_files.specs.run_input.proofs.SaidCommands.{end_is_last}
 
 -- what a run is of, by the items and by the capture
 pub same_subject : {R : Type 0} (F : Type 0) (f : Semantics R) (s : NetworkAsked) (g : Scenario)

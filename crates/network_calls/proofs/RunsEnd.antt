@@ -1,25 +1,13 @@
 -- A run of an input that ends once has few choices, and as long as something is left to do some choice is enabled. So a schedule comes to the end.
-use Rattle.std.proofs.Common.{◌≡◌, ℕ, ◌≤◌, true, List, sym, subst, arith}
-use Rattle.std.specs.declared.alloc.Global.{Global}
+use Rattle.network_calls.proofs.Words.{◌≡◌, ℕ, ◌≤◌, true, List, sym, subst, arith, Global, FunctionLaws, Semantics, Msg, Schedule, MOST_CHOICES, run}
+use Rattle.network_calls.proofs.Words.{scheduled_is_run, setting_of, short_runs, Config, IsInput, node_ended, node_step, choices_of, started_with}
 use Rattle.std.proofs.lemmas.Bool.Decides.{Decides-eqb}
-use Rattle.nf_function.specs.Records.{Laws as FunctionLaws}
-use Rattle.nf_function.specs.Semantics.{Semantics}
-use Rattle.nf_msgs.specs.declared.msg.Msg.{Msg}
-use Rattle.actor_net.specs.declared.schedule.Schedule.{Schedule}
-use Rattle.actor_net.specs.declared.schedule.TheConstants.{MOST_CHOICES}
-use Rattle.actor_net.specs.Network.{run}
 use Rattle.actor_net.specs.Schedules.{StopsShort}
-use Rattle.actor_net.proofs.ScheduleLaws.{scheduled_is_run}
 use Rattle.net_world.specs.Length.{ends, has_end, IsShort}
-use Rattle.run_headline.specs.nf_net.specs.proof_outlines.proofs.joined.Setting.{setting_of}
 use Rattle.run_headline.specs.nf_net.proofs.length.RunLength.{run_length}
-use Rattle.run_headline.specs.nf_net.proofs.length.ShortRuns.{short_runs}
 use Rattle.run_headline.specs.nf_net.proofs.ends.NoStuckWorld.{no_stuck_world, never_short}
-use Rattle.net_world.specs.declared.config.Config.{Config}
-use Rattle.net_world.specs.Input.{IsInput}
-use Rattle.net_world.specs.Nodes.{node_ended, node_ready, node_step}
-use Rattle.net_world.specs.Runs.{choices_of, StopsAt}
-use Rattle.net_world.specs.Start.{started_with}
+use Rattle.net_world.specs.Nodes.{node_ready}
+use Rattle.net_world.specs.Runs.{StopsAt}
 use Rattle.network_calls.specs.Ends.{EndLaw}
 
 some_end : (items : List Msg) → has_end items ≡ true → 1 ≤ ends items

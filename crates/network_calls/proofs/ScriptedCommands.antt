@@ -1,28 +1,20 @@
 -- The commands in the input of a run are those of its script, in file order.
-use Rattle.std.proofs.Common.{◌≡◌, ℕ, ◌==◌, Bool, true, false, cond, List, [], ◌∷◌, length, nat_lt, is_some, Result, Ok, Err, refl, ap, ◌∙◌, subst}
-use Rattle.std.specs.Prelude.{filter_map}
-use Rattle.std.specs.List.{cons_option, slice_split}
+use Rattle.network_calls.proofs.Words.{◌≡◌, ℕ, ◌==◌, Bool, true, false, List, [], ◌∷◌, length, Result, Ok, Err, refl, ap, ◌∙◌, subst, filter_map, cons_option}
+use Rattle.network_calls.proofs.Words.{Kind, Line, What, Command, Settle, items, script_view, commands, in_order, NetworkAsked, Scenario, given_script}
+use Rattle.network_calls.proofs.Words.{command_said}
+use Rattle.std.proofs.Common.{cond, nat_lt, is_some}
+use Rattle.std.specs.List.{slice_split}
 use Rattle.basics.specs.Bytes.{line_feed}
-use Rattle.nf_function.specs.declared.kind.Kind.{Kind}
 use Rattle.nf_msgs.specs.declared.command.Command as one
 use Rattle.op_script.specs.declared.fault.ScriptKind.{ScriptKind}
 use Rattle.op_script.specs.declared.fault.ScriptKind.TheVariants as bad
-use Rattle.op_script.specs.declared.script.Line.{Line}
-use Rattle.op_script.specs.declared.script.What.{What}
-use Rattle.op_script.specs.declared.script.What.TheVariants.{Command, Settle}
-use Rattle.op_script.specs.Items.{items}
 use Rattle.op_script.specs.Printing.{is_in_order, longest_script}
-use Rattle.op_script.specs.Reading.{ScriptView, script_of, script_view, with_lines}
+use Rattle.op_script.specs.Reading.{ScriptView, script_of, with_lines}
 use Rattle.op_script.specs.ReadingSteps.{ScriptAnswer, said, start}
 use Rattle.op_script.specs.Statements.{Word}
 use Rattle.op_script.proofs.ParsedScripts.{lines_right}
-use Rattle.net_world.specs.Input.{commands}
 use Rattle.call_files.specs.run_input.proofs.SaidCommands.{commands_in, line_commands, with_command}
-use Rattle.call_files.specs.run_input.proofs.ScriptedOrders.{in_order}
-use Rattle.command_words.specs.Requests.{NetworkAsked}
 use Rattle.command_words.specs.Values.{names_of}
-use Rattle.call_files.specs.Scenarios.{Scenario, given_script}
-use Rattle.network_calls.specs.NetworkRuns.{command_said}
 
 -- the commands of lines, one by one
 line_commands_are : (lines : List Line) → line_commands lines ≡ filter_map (λ (line : Line). command_said line.what) lines

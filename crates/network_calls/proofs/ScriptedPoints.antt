@@ -1,24 +1,13 @@
 -- How many packets stand before each command in the input of a run: as many as its line names, or all where there are fewer.
-use Rattle.std.proofs.Common.{◌≡◌, ℕ, ◌+◌, ◌≤◌, min, Bool, true, false, List, [], ◌∷◌, ◌++◌, map, length, filter, append-nil, eqb, leb, Ok, refl, sym, ap, ◌∙◌}
-use Rattle.std.proofs.Common.{arith}
-use Rattle.std.specs.Prelude.{filter_map, if◌then◌else◌, option_map}
-use Rattle.std.specs.List.{cons_option}
-use Rattle.std.proofs.lemmas.Bool.Decides.{nat_tests}
+use Rattle.network_calls.proofs.Words.{◌≡◌, ℕ, ◌+◌, ◌≤◌, Bool, true, false, List, [], ◌∷◌, ◌++◌, map, length, Ok, refl, sym, ap, ◌∙◌, arith, filter_map}
+use Rattle.network_calls.proofs.Words.{if◌then◌else◌, option_map, cons_option, nat_tests, Packet, Msg, Line, What, Command, Settle, items, script_view}
+use Rattle.network_calls.proofs.Words.{in_order, NetworkAsked, Scenario, given_script, command_said}
+use Rattle.std.proofs.Common.{min, filter, append-nil, eqb, leb}
 use Rattle.std.proofs.lemmas.List.{append_assoc}
-use Rattle.flow_filter.specs.declared.packet.Packet.{Packet}
-use Rattle.nf_msgs.specs.declared.msg.Msg.{Msg}
 use Rattle.nf_msgs.specs.declared.msg.Msg.TheVariants.{InPacket, InEnd}
-use Rattle.op_script.specs.declared.script.Line.{Line}
-use Rattle.op_script.specs.declared.script.What.{What}
-use Rattle.op_script.specs.declared.script.What.TheVariants.{Command, Settle}
-use Rattle.op_script.specs.Items.{IsFrom, items, items_from, msg_of, said_where}
-use Rattle.op_script.specs.Reading.{script_view}
+use Rattle.op_script.specs.Items.{IsFrom, items_from, msg_of, said_where}
 use Rattle.call_files.specs.run_input.proofs.SaidCommands.{from, from_start, here, here_and_behind}
-use Rattle.call_files.specs.run_input.proofs.ScriptedOrders.{in_order}
 use Rattle.run_headline.specs.Law.{points_of}
-use Rattle.command_words.specs.Requests.{NetworkAsked}
-use Rattle.call_files.specs.Scenarios.{Scenario, given_script}
-use Rattle.network_calls.specs.NetworkRuns.{command_said}
 use Rattle.network_calls.proofs.ScriptedCommands.{given_follows}
 
 -- a number for each command of some lines, in their order

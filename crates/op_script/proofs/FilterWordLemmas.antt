@@ -1,16 +1,10 @@
 -- The text of a filter is a word.
-use Rattle.std.proofs.Common.{ℕ, ◌<◌, ◌≤◌, ◌^◌, Bool, true, false, cond, eqb, List, [], ◌∷◌, Option, None, Some, option_map, refl, arith, length-append}
-use Rattle.std.specs.Prelude.{codes}
-use Rattle.std.specs.Option.{ForSome}
-use Rattle.std.specs.List.{AllByRecursion, join_with_byte}
-use Rattle.std.specs.Fmt.{decimal}
+use Rattle.op_script.proofs.Words.{ℕ, ◌<◌, ◌≤◌, ◌^◌, Bool, true, false, cond, eqb, List, [], ◌∷◌, Option, None, Some, option_map, refl, arith, length-append}
+use Rattle.op_script.proofs.Words.{codes, ForSome, AllByRecursion, join_with_byte, decimal, Filter, IsFilter, print, Word}
 use Rattle.flow_filter.specs.declared.prefix.Prefix.{Prefix}
-use Rattle.flow_filter.specs.declared.filter.Filter.{Filter}
 use Rattle.basics.specs.Address.{address_text}
 use Rattle.basics.specs.AddressSteps.{byte_of}
-use Rattle.flow_filter.specs.Filter.{IsFilter}
-use Rattle.flow_filter.specs.FilterText.{piece, pieces, joined, print, protocol_text, prefix_text}
-use Rattle.op_script.specs.Statements.{Word}
+use Rattle.flow_filter.specs.FilterText.{piece, pieces, joined, protocol_text, prefix_text}
 use Rattle.op_script.proofs.ScriptLineLemmas.{All-append}
 use Rattle.op_script.proofs.PrintableWords.{Within, Within-append, Within-literal, IsWord, literal_word, decimal_word}
 

@@ -1,11 +1,9 @@
 -- The input so far, one packet more, also where it is late, and the end.
-use Rattle.std.proofs.Common.{◌≡◌, ℕ, ◌+◌, ◌<◌, eqb, leb, List, ◌∷◌, [], ◌++◌, map, length, get_or, take, drop, set, refl, ap, sym, subst, ◌∙◌, arith}
-use Rattle.std.proofs.lemmas.List.{append_assoc, drop_all, drop_more, drop-set-lt, take_all, take_more_set}
-use Rattle.flow_filter.specs.declared.packet.Packet.{Packet}
-use Rattle.nf_msgs.specs.declared.msg.Msg.{Msg}
-use Rattle.nf_msgs.specs.declared.msg.Msg.TheVariants.{InPacket, InEnd}
-use Rattle.op_script.specs.declared.script.Line.{Line}
-use Rattle.op_script.specs.Items.{said_where, items_from, items}
+use Rattle.op_script.proofs.Words.{◌≡◌, ℕ, ◌+◌, ◌<◌, eqb, leb, List, ◌∷◌, [], ◌++◌, map, length, get_or, take, drop, refl, ap, sym, subst, ◌∙◌, arith}
+use Rattle.op_script.proofs.Words.{take_all, Packet, Msg, InPacket, Line, said_where, items_from, items}
+use Rattle.std.proofs.Common.{set}
+use Rattle.std.proofs.lemmas.List.{append_assoc, drop_all, drop_more, drop-set-lt, take_more_set}
+use Rattle.nf_msgs.specs.declared.msg.Msg.TheVariants.{InEnd}
 
 no_packets : (ps : List Packet) → map InPacket ps ≡ [] → ps ≡ []
 no_packets [] none = refl

@@ -1,10 +1,7 @@
 -- What stands where something was judged to be right.
-use Rattle.std.proofs.Common.{◌≡◌, Bool, true, false, Option, None, Some, Ok, Err, refl}
+use Rattle.op_script.proofs.Words.{◌≡◌, Bool, true, false, Option, None, Some, Ok, Err, refl, ◌>>=◌, Judged, unless, wanted}
 use Rattle.std.specs.Option.{option_transpose}
 use Rattle.op_script.specs.declared.fault.ScriptKind.{ScriptKind}
-use Rattle.basics.specs.Results.{◌>>=◌}
-use Rattle.op_script.specs.Reading.{Judged}
-use Rattle.op_script.specs.ReadingSteps.{unless, wanted}
 
 -- the value of a first part, and what was made of it
 pub record Steps {A B : Type 0} (a : Judged A) (f : A → Judged B) (t : B) : Type 0 where

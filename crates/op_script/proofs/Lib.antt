@@ -1,3 +1,4 @@
+pub mod Words
 pub mod WrittenTexts
 pub mod JudgedLemmas
 pub mod ScriptLineLemmas

@@ -1,17 +1,15 @@
 -- Lines in the order of their points: what they say at a point stands first, and what stands after it is in order again.
-use Rattle.std.proofs.Common.{◌≡◌, ◌∙◌, ℕ, suc, ◌+◌, ◌*◌, ◌^◌, ◌<◌, ◌≤◌, Bool, true, false, cond, eqb, List, [], ◌∷◌, map}
-use Rattle.std.proofs.Common.{filter, length, get_or, take, drop, ap, sym, refl, subst, inl, inr, arith, eqb-true, leb}
-use Rattle.std.specs.List.{prefix_len, take-map, drop-map}
+use Rattle.op_script.proofs.Words.{◌≡◌, ◌∙◌, ℕ, suc, ◌+◌, ◌*◌, ◌^◌, ◌<◌, ◌≤◌, Bool, true, false, cond, eqb, List, [], ◌∷◌, map, filter, length, get_or, take}
+use Rattle.op_script.proofs.Words.{drop, ap, sym, refl, subst, inl, inr, arith, leb, prefix_len, cases_Bool, leb-true, nat_tests, Msg, Line, msg_of}
+use Rattle.op_script.proofs.Words.{said_where, AreLinesFrom}
+use Rattle.std.proofs.Common.{eqb-true}
+use Rattle.std.specs.List.{take-map, drop-map}
 use Rattle.std.specs.List.Sorted.{IsNonDecreasingBy, IsStableByKey, ties}
 use Rattle.std.specs.Ordering.{nat_cmp, is_lt}
-use Rattle.std.proofs.lemmas.Bool.{cases_Bool, leb-true}
-use Rattle.std.proofs.lemmas.Bool.Decides.{nat_tests}
 use Rattle.std.proofs.lemmas.List.Sorted.{IsNonDecreasingBy-drop}
 use Rattle.std.proofs.lemmas.Simd.{map-map}
 use Rattle.std.proofs.lemmas.List.{length-drop}
-use Rattle.nf_msgs.specs.declared.msg.Msg.{Msg}
-use Rattle.op_script.specs.declared.script.Line.{Line}
-use Rattle.op_script.specs.Items.{msg_of, said_where, IsFrom, AreLinesFrom}
+use Rattle.op_script.specs.Items.{IsFrom}
 
 -- what is said at one point
 abbrev pub said_at : ℕ → List Line → List Msg

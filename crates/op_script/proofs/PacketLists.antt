@@ -1,16 +1,8 @@
 -- Items that are the packets of a list: their packets are the list, and one packet more stands after them.
-use Rattle.std.proofs.Common.{◌≡◌, ◌∙◌, ℕ, ◌+◌, ◌<◌, Bool, true, false, eqb, leb, List, [], ◌∷◌, ◌++◌, map, length, refl, ap, sym, subst, arith}
-use Rattle.std.specs.List.{list_all}
+use Rattle.op_script.proofs.Words.{◌≡◌, ◌∙◌, ℕ, ◌+◌, ◌<◌, Bool, true, false, eqb, leb, List, [], ◌∷◌, ◌++◌, map, length, refl, ap, sym, subst, arith, list_all}
+use Rattle.op_script.proofs.Words.{nat_tests, length-map, map-append, Packet, Msg, InPacket, Line, said_where, items_from, IsInRange, packets_of}
 use Rattle.std.specs.Prelude.{◌&&◌}
-use Rattle.std.proofs.lemmas.Bool.Decides.{nat_tests}
-use Rattle.std.proofs.lemmas.List.{length-map, map-append}
-use Rattle.flow_filter.specs.declared.packet.Packet.{Packet}
-use Rattle.nf_msgs.specs.declared.msg.Msg.{Msg}
-use Rattle.nf_msgs.specs.declared.msg.Msg.TheVariants.{InPacket}
-use Rattle.op_script.specs.declared.script.Line.{Line}
-use Rattle.op_script.specs.Items.{said_where, items_from}
-use Rattle.flow_filter.specs.Packet.{IsInRange}
-use Rattle.op_script.specs.PacketItems.{ArePackets, packets_of}
+use Rattle.op_script.specs.PacketItems.{ArePackets}
 use Rattle.op_script.proofs.OneMore.{one_more}
 
 pub packets_of-map : (ps : List Packet) → packets_of (map InPacket ps) ≡ ps

@@ -1,28 +1,21 @@
 -- What was read breaks no rule, and splits no unit.
-use Rattle.std.proofs.Common.{◌≡◌, ℕ, ◌+◌, ◌<◌, ◌≤◌, true, false, not, leb, List, [], ◌∷◌, ◌++◌, length, Option, None}
-use Rattle.std.proofs.Common.{Some, is_some, unwrap_or, Ok, Err, Result, refl, ap, sym, ◌∙◌, arith, subst, length-append}
-use Rattle.std.specs.List.{list_all, slice_split}
+use Rattle.op_script.proofs.Words.{◌≡◌, ℕ, ◌+◌, ◌<◌, ◌≤◌, true, false, not, leb, List, [], ◌∷◌, ◌++◌, length, Option, None, Some, is_some, unwrap_or, Ok, Err}
+use Rattle.op_script.proofs.Words.{Result, refl, ap, sym, ◌∙◌, arith, subst, length-append, list_all, slice_split, bytes_eq, not-false, has_twice, is_name}
+use Rattle.op_script.proofs.Words.{place_of, split_once, ◌>>=◌, Fields, parse, Kind, splits, Word, words, Event, Moving, Copying, Sharing, Settling, Statement}
+use Rattle.op_script.proofs.Words.{Routing, Happening, State, OrderView, LineView, Judged, distinct_names, filter_of, with_route, order_said, with_statement}
+use Rattle.op_script.proofs.Words.{with_text, with_lines, unless, goes_back, start, wanted, noted, numbered, IsRoute, IsWhat, IsLine, IsScript, SplitsNone}
+use Rattle.op_script.proofs.Words.{order_splits, what_splits, ◌==◌, strip_carriage_return, split-Some}
 use Rattle.std.specs.Result.{result_map_both}
-use Rattle.std.specs.Str.{bytes_eq}
-use Rattle.std.proofs.lemmas.Bool.{leb-false, ltb-false, not-false}
+use Rattle.std.proofs.lemmas.Bool.{leb-false, ltb-false}
 use Rattle.std.proofs.lemmas.List.Quantifiers.{position-Some}
 use Rattle.flow_filter.specs.declared.filter_text.FilterFault.{FilterFault}
-use Rattle.flow_filter.specs.Name.{has_twice, is_name, place_of}
-use Rattle.basics.specs.Parsing.{split_once}
-use Rattle.basics.specs.Results.{◌>>=◌}
-use Rattle.flow_filter.specs.FilterText.{Fields, is_transport, parse}
+use Rattle.flow_filter.specs.FilterText.{is_transport}
 use Rattle.flow_filter.proofs.ParsedFilters.{parse_printable}
-use Rattle.nf_function.specs.declared.kind.Kind.{Kind}
-use Rattle.nf_function.specs.Units.{splits}
-use Rattle.op_script.specs.Statements.{Word, words, Event, Moving, Copying, Sharing, Settling, Statement, Silent, Routing, Happening}
-use Rattle.op_script.specs.Reading.{State, OrderView, Moves, Copies, Shares, LineView, Judged, distinct_names}
-use Rattle.op_script.specs.Reading.{filter_of, with_route, with_line, order_said, with_statement, with_text, with_lines}
-use Rattle.op_script.specs.ReadingSteps.{unless, whole, filter_or_all, goes_back, start, wanted, noted, numbered, with_event}
-use Rattle.op_script.specs.Printing.{IsRoute, IsWhat, IsLine, IsScript, SplitsNone, is_writable, order_splits, what_splits}
-use Rattle.std.specs.Prelude.{◌==◌}
-use Rattle.std.specs.Str.Lines.{strip_carriage_return}
+use Rattle.op_script.specs.Statements.{Silent}
+use Rattle.op_script.specs.Reading.{Moves, Copies, Shares, with_line}
+use Rattle.op_script.specs.ReadingSteps.{whole, filter_or_all, with_event}
+use Rattle.op_script.specs.Printing.{is_writable}
 use Rattle.std.proofs.lemmas.List.Splits.{length-slice_split}
-use Rattle.basics.proofs.SplitLemmas.{split-Some}
 use Rattle.op_script.specs.declared.fault.ScriptKind.TheVariants as bad
 use Rattle.op_script.proofs.StatementLemmas.{IsEvent, IsStatement, statement_right}
 use Rattle.op_script.proofs.JudgedLemmas.{judged_some, steps, unless_Ok, wanted_Ok}

@@ -1,19 +1,16 @@
 -- Words that can be printed: no blank, no line's end, and ASCII alone.
-use Rattle.std.proofs.Common.{◌≡◌, ℕ, ◌-◌, ◌<◌, ◌≤◌, zero, suc, Bool, true, false, not, eqb, leb, ltb, ◌&&◌, List}
-use Rattle.std.proofs.Common.{[], ◌∷◌, ◌++◌, length, get_or, filter, refl, ap, ◌∙◌, arith, inl, inr, lit<, ◌^◌}
-use Rattle.std.specs.List.{AllByRecursion, All, slice_split, join_with_byte, list_all}
-use Rattle.std.specs.Str.{IsAscii, is_utf8}
-use Rattle.std.specs.Str.Lines.{strip_carriage_return}
+use Rattle.op_script.proofs.Words.{◌≡◌, ℕ, ◌-◌, ◌<◌, ◌≤◌, zero, suc, Bool, true, false, not, eqb, leb, ◌&&◌, List, [], ◌∷◌, ◌++◌, length, get_or, filter, refl}
+use Rattle.op_script.proofs.Words.{ap, ◌∙◌, arith, inl, inr, ◌^◌, AllByRecursion, slice_split, join_with_byte, list_all, is_utf8, strip_carriage_return}
+use Rattle.op_script.proofs.Words.{decimal, and_parts, leb-true, ne_eqb, is_utf8-from_IsUtf8, is_name, is_name_byte, Word, words, is_blank}
+use Rattle.std.proofs.Common.{ltb, lit<}
+use Rattle.std.specs.List.{All}
+use Rattle.std.specs.Str.{IsAscii}
 use Rattle.std.specs.Int.{IsInRange}
-use Rattle.std.specs.Fmt.{decimal}
-use Rattle.std.proofs.lemmas.Bool.{and_parts, or_cases, leb-true, ne_eqb, ltb-true}
-use Rattle.std.proofs.lemmas.Str.{is_utf8-from_IsUtf8, IsUtf8-from_ascii}
+use Rattle.std.proofs.lemmas.Bool.{or_cases, ltb-true}
+use Rattle.std.proofs.lemmas.Str.{IsUtf8-from_ascii}
 use Rattle.std.proofs.lemmas.Fmt.{digits_decimal, decimal_nonempty}
 use Rattle.std.proofs.lemmas.List.Splits.{slice_split_none, slice_split_at}
-use Rattle.flow_filter.specs.Name.{is_name, is_name_byte}
 use Rattle.basics.proofs.DecimalLemmas.{AreDigits, own}
-use Rattle.op_script.specs.Statements.{Word, words}
-use Rattle.op_script.specs.WordSteps.{is_blank}
 use Rattle.op_script.proofs.ScriptLineLemmas.{All-append}
 
 -- each byte lies between two bounds

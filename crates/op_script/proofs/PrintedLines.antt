@@ -1,20 +1,9 @@
 -- The text of a script is read as the script: one line.
-use Rattle.std.proofs.Common.{◌≡◌, ℕ, ◌<◌, ◌^◌, Bool, true, false, cond, eqb, List, [], ◌∷◌, ◌++◌}
-use Rattle.std.proofs.Common.{map, None, Some, is_some, Ok, refl, ap, sym, ◌∙◌, arith, append_assoc}
-use Rattle.std.specs.Prelude.{codes}
-use Rattle.std.specs.List.{AllByRecursion, slice_split, join_with_byte, concat}
-use Rattle.std.specs.Str.{bytes_eq}
-use Rattle.std.specs.Str.Lines.{strip_carriage_return}
-use Rattle.std.specs.Fmt.{decimal}
-use Rattle.std.proofs.lemmas.Bool.{ne_eqb}
-use Rattle.basics.specs.Parsing.{split_once}
-use Rattle.basics.proofs.SplitLemmas.{Lacks, split_once-append, split-Some}
+use Rattle.op_script.proofs.Words.{◌≡◌, ℕ, ◌<◌, ◌^◌, Bool, true, false, cond, eqb, List, [], ◌∷◌, ◌++◌, map, None, Some, is_some, Ok, refl, ap, sym, ◌∙◌}
+use Rattle.op_script.proofs.Words.{arith, append_assoc, codes, AllByRecursion, slice_split, join_with_byte, concat, bytes_eq, strip_carriage_return, decimal}
+use Rattle.op_script.proofs.Words.{ne_eqb, split_once, Lacks, split_once-append, split-Some, Kind, Word, Event, Moving, Copying, Sharing, Settling, Statement}
+use Rattle.op_script.proofs.Words.{Routing, Happening, statement_of, event_of, State, with_text, with_statement, line_text}
 use Rattle.basics.proofs.PrintedNumbers.{parse_number-printed}
-use Rattle.nf_function.specs.declared.kind.Kind.{Kind}
-use Rattle.op_script.specs.Statements.{Word, Event, Moving, Copying, Sharing, Settling, Statement, Routing}
-use Rattle.op_script.specs.Statements.{Happening, statement_of, event_of}
-use Rattle.op_script.specs.Reading.{State, with_text, with_statement}
-use Rattle.op_script.specs.Printing.{line_text}
 use Rattle.op_script.proofs.PrintableWords.{Within, IsWord, words-joined, line_seen, strip-line, line_utf8}
 
 -- bytes from the space on lack a line's end

@@ -1,30 +1,19 @@
 -- The words of an order are read as the order.
-use Rattle.std.proofs.Common.{◌≡◌, ℕ, ◌<◌, ◌≤◌, ◌^◌, Bool, true, false, not, cond, eqb, leb, ◌&&◌, ◌||◌, List, []}
-use Rattle.std.proofs.Common.{◌∷◌, ◌++◌, length, Option, None, Some, is_some, option_map, Ok, refl, ap, sym, ◌∙◌, arith}
-use Rattle.std.specs.Prelude.{codes}
-use Rattle.std.specs.List.{AllByRecursion, slice_split, join_with_byte, list_all}
-use Rattle.std.specs.Option.{ForSome}
-use Rattle.std.specs.Str.{bytes_eq}
-use Rattle.std.specs.Fmt.{decimal}
-use Rattle.std.proofs.lemmas.Bool.{ne_eqb, and_parts, not-false, or_parts, false_from_ne_true}
-use Rattle.std.proofs.lemmas.Slice.Eq.{bytes_eq-Decides}
-use Rattle.flow_filter.specs.declared.filter.Filter.{Filter}
-use Rattle.flow_filter.specs.Filter.{IsFilter}
-use Rattle.flow_filter.specs.Name.{is_name, is_name_byte, has_twice}
-use Rattle.flow_filter.specs.FilterText.{Fields, print, parse, fields_of, is_printable}
-use Rattle.basics.specs.Parsing.{split_once}
-use Rattle.basics.proofs.SplitLemmas.{Lacks, split_once-append, split_once-lacks, split-Some, split-None}
+use Rattle.op_script.proofs.Words.{◌≡◌, ℕ, ◌<◌, ◌≤◌, ◌^◌, Bool, true, false, not, cond, eqb, leb, ◌&&◌, List, [], ◌∷◌, ◌++◌, length, Option, None, Some}
+use Rattle.op_script.proofs.Words.{is_some, option_map, Ok, refl, ap, sym, ◌∙◌, arith, codes, AllByRecursion, slice_split, join_with_byte, list_all, ForSome}
+use Rattle.op_script.proofs.Words.{bytes_eq, decimal, ne_eqb, and_parts, not-false, or_parts, bytes_eq-Decides, Filter, IsFilter, is_name, is_name_byte}
+use Rattle.op_script.proofs.Words.{has_twice, Fields, print, parse, fields_of, split_once, Lacks, split_once-append, split-Some, Kind, splits, Word, Event}
+use Rattle.op_script.proofs.Words.{Moving, Copying, Sharing, Happening, statement_of, distinct_names, filter_of, order_said, order_view, unless, order_splits}
+use Rattle.std.proofs.Common.{◌||◌}
+use Rattle.std.proofs.lemmas.Bool.{false_from_ne_true}
+use Rattle.flow_filter.specs.FilterText.{is_printable}
+use Rattle.basics.proofs.SplitLemmas.{split_once-lacks, split-None}
 use Rattle.flow_filter.proofs.PrintedFilters.{parse-print}
-use Rattle.nf_function.specs.declared.kind.Kind.{Kind}
-use Rattle.nf_function.specs.Units.{splits}
 use Rattle.nf_msgs.specs.declared.command.Order.{Order}
 use Rattle.nf_msgs.specs.declared.command.Order.TheVariants.{Move, Copy, Share}
 use Rattle.op_script.specs.declared.fault.ScriptKind.TheVariants as bad
-use Rattle.op_script.specs.Statements.{Word, Event, Moving, Copying, Sharing, Happening, statement_of}
-use Rattle.op_script.specs.Reading.{distinct_names, filter_of, order_said, order_view}
-use Rattle.op_script.specs.ReadingSteps.{unless}
 use Rattle.nf_msgs.specs.Orders.{order_filter}
-use Rattle.op_script.specs.Printing.{copied_word, order_words, IsOrder, order_splits}
+use Rattle.op_script.specs.Printing.{copied_word, order_words, IsOrder}
 use Rattle.op_script.proofs.JudgedLemmas.{unless_Ok}
 use Rattle.op_script.proofs.PrintableWords.{IsWord, literal_word, name_word}
 use Rattle.op_script.proofs.FilterWordLemmas.{filter_word, join_word}

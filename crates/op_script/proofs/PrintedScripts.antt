@@ -1,32 +1,21 @@
 -- The text of a script is read as the script: all lines.
-use Rattle.std.proofs.Common.{◌≡◌, ℕ, ◌+◌, ◌<◌, ◌≤◌, ◌^◌, Bool, true, false, not, cond, eqb, leb, List, [], ◌∷◌, ◌++◌, zero, suc, length}
-use Rattle.std.proofs.Common.{map, get_or, Option, None, Some, unwrap_or, Ok, refl, ap, sym, ◌∙◌, subst, arith, append_assoc, append-nil, length-append}
-use Rattle.std.specs.Prelude.{codes}
-use Rattle.std.specs.List.{AllByRecursion, join_with_byte, concat, list_any, prefix_len, slice_index_or}
-use Rattle.std.specs.Option.{ForSome}
-use Rattle.std.specs.Str.{bytes_eq}
-use Rattle.std.specs.Fmt.{decimal}
-use Rattle.std.proofs.lemmas.Bool.{and_parts, leb-true, eqb-true, lt-leb, lt-ltb, le-ltb, or_parts}
-use Rattle.std.proofs.lemmas.List.{map-append, length-map}
+use Rattle.op_script.proofs.Words.{◌≡◌, ℕ, ◌+◌, ◌<◌, ◌≤◌, ◌^◌, Bool, true, false, not, cond, eqb, leb, List, [], ◌∷◌, ◌++◌, zero, suc, length, map, get_or}
+use Rattle.op_script.proofs.Words.{Option, None, Some, unwrap_or, Ok, refl, ap, sym, ◌∙◌, subst, arith, append_assoc, append-nil, length-append, codes}
+use Rattle.op_script.proofs.Words.{AllByRecursion, join_with_byte, concat, prefix_len, ForSome, bytes_eq, decimal, and_parts, leb-true, or_parts, map-append}
+use Rattle.op_script.proofs.Words.{length-map, bytes_eq-Decides, Filter, IsFilter, is_name, has_twice, place_of, Fields, print, fields_of, Kind, splits}
+use Rattle.op_script.proofs.Words.{Script, Line, Settle, Word, Event, Routing, Happening, Settling, statement_of, State, OrderView, LineView, with_route}
+use Rattle.op_script.proofs.Words.{order_said, with_statement, with_lines, script_of, line_view, order_view, script_view, goes_back, start, noted, numbered}
+use Rattle.op_script.proofs.Words.{command_count, route_view, route_words, line_words, IsWhat, line_text, script_text, IsRoute, IsLine, IsScript, SplitsNone}
+use Rattle.op_script.proofs.Words.{what_splits, is_in_order, next_after, and_then}
+use Rattle.std.specs.List.{list_any, slice_index_or}
+use Rattle.std.proofs.lemmas.Bool.{eqb-true, lt-leb, lt-ltb, le-ltb}
 use Rattle.std.proofs.lemmas.List.Elements.{recursion_from_All}
-use Rattle.std.proofs.lemmas.Slice.Eq.{bytes_eq-Decides}
-use Rattle.flow_filter.specs.declared.filter.Filter.{Filter}
-use Rattle.flow_filter.specs.Filter.{IsFilter}
-use Rattle.flow_filter.specs.Name.{is_name, has_twice, place_of}
-use Rattle.flow_filter.specs.FilterText.{Fields, print, fields_of}
-use Rattle.nf_function.specs.declared.kind.Kind.{Kind}
-use Rattle.nf_function.specs.Units.{splits}
-use Rattle.op_script.specs.declared.script.Script.{Script}
-use Rattle.op_script.specs.declared.script.Line.{Line}
 use Rattle.op_script.specs.declared.script.What.{What}
-use Rattle.op_script.specs.declared.script.What.TheVariants.{Command, Settle}
-use Rattle.op_script.specs.Statements.{Word, Event, Routing, Happening, Settling, statement_of}
-use Rattle.op_script.specs.Reading.{State, OrderView, LineView, with_route, order_said, with_statement, with_lines}
-use Rattle.op_script.specs.Reading.{script_of, line_view, what_view, order_view, script_view, ScriptView}
-use Rattle.op_script.specs.ReadingSteps.{goes_back, ScriptAnswer, start, noted, numbered, command_count, route_view}
+use Rattle.op_script.specs.declared.script.What.TheVariants.{Command}
+use Rattle.op_script.specs.Reading.{what_view, ScriptView}
+use Rattle.op_script.specs.ReadingSteps.{ScriptAnswer}
 use Rattle.op_script.specs.LineFilters.{what_filter}
-use Rattle.op_script.specs.Printing.{route_words, line_words, what_words, IsWhat, line_text, script_words, script_text}
-use Rattle.op_script.specs.Printing.{IsRoute, IsLine, IsScript, SplitsNone, what_splits, is_in_order, next_after, and_then}
+use Rattle.op_script.specs.Printing.{what_words, script_words}
 use Rattle.op_script.proofs.PrintableWords.{Within, IsWord, literal_word, line_seen, line_utf8, name_word, decimal_word}
 use Rattle.op_script.proofs.FilterWordLemmas.{filter_word}
 use Rattle.op_script.proofs.PrintedLines.{line_says, lines-joined, route_statement, at_statement, settle_event}

@@ -1,7 +1,6 @@
 -- What is known of a packet whose numbers are in range: at a site it fits its types, and so does its flow.
-use Rattle.std.proofs.Common.{◌≡◌, ◌-◌, ◌/◌, ◌<◌, ◌^◌, Bool, true, false, not, ◌&&◌, cond, leb, refl, arith}
-use Rattle.std.proofs.lemmas.Bool.{and_parts}
-use Rattle.flow_filter.specs.declared.packet.Packet.{Packet}
+use Rattle.op_script.proofs.Words.{◌≡◌, ◌-◌, ◌<◌, ◌^◌, Bool, true, false, not, ◌&&◌, cond, leb, refl, arith, and_parts, Packet, IsInRange}
+use Rattle.std.proofs.Common.{◌/◌}
 use Rattle.flow_filter.specs.declared.site.Site.{Site}
 use Rattle.flow_filter.specs.declared.flow.Flow.{Flow}
 use Rattle.flow_filter.specs.declared.flow.Direction.{Direction}
@@ -12,7 +11,6 @@ use Rattle.flow_filter.specs.FieldSteps.{is_source_first, owner_of_port}
 use Rattle.flow_filter.proofs.SiteLemmas.{is_24, last_byte_fits}
 use Rattle.nf_function.specs.Records.{Fits}
 use Rattle.nf_function.specs.Units.{is_transport}
-use Rattle.flow_filter.specs.Packet.{IsInRange}
 
 pub fits_site : (site : Site) (p : Packet) → site.inside.bits < 2 ^ 32 → is_transport p.proto ≡ true → IsInRange p → Fits site p
 fits_site site p inside transport ranges = record {

@@ -1,11 +1,10 @@
 -- Lines that follow one another, and one line more.
-use Rattle.std.proofs.Common.{◌≡◌, ℕ, ◌+◌, ◌≤◌, Bool, true, false, cond, eqb, leb, List, [], ◌∷◌, ◌++◌, Option, None, Some, is_some, refl, ◌∙◌, arith}
-use Rattle.std.specs.List.{AllByRecursion, fold}
-use Rattle.std.proofs.lemmas.Bool.{and_parts, and_from, le-leb, eq-eqb}
+use Rattle.op_script.proofs.Words.{◌≡◌, ℕ, ◌+◌, ◌≤◌, Bool, true, false, cond, eqb, leb, List, [], ◌∷◌, ◌++◌, Option, None, Some, is_some, refl, ◌∙◌, arith}
+use Rattle.op_script.proofs.Words.{AllByRecursion, and_parts, OrderView, LineView, command_count, numbered, is_in_order, next_after, and_then}
+use Rattle.std.specs.List.{fold}
+use Rattle.std.proofs.lemmas.Bool.{and_from, le-leb, eq-eqb}
 use Rattle.std.proofs.lemmas.List.Sums.{sum_by-append, sum_by-cons}
-use Rattle.op_script.specs.Reading.{OrderView, LineView}
-use Rattle.op_script.specs.ReadingSteps.{command_count, is_command, numbered}
-use Rattle.op_script.specs.Printing.{is_in_order, next_after, and_then}
+use Rattle.op_script.specs.ReadingSteps.{is_command}
 
 pub All-append : {X : Type 0} (P : X → Type 0) (xs ys : List X) → AllByRecursion P xs → AllByRecursion P ys → AllByRecursion P (xs ++ ys)
 All-append P [] ys in_xs in_ys = in_ys

@@ -1,10 +1,9 @@
 -- What a statement says of its words: a share's list has a comma.
-use Rattle.std.proofs.Common.{◌≡◌, ℕ, Bool, true, false, ◌&&◌, cond, List, [], ◌∷◌, Option, None, Some, is_some, option_map, refl, subst}
-use Rattle.std.specs.Prelude.{codes, option_and_then}
-use Rattle.std.specs.Str.{bytes_eq}
-use Rattle.basics.specs.Parsing.{parse_number, split_once}
-use Rattle.op_script.specs.Statements.{Word, Event, Sharing, Statement, Happening}
-use Rattle.op_script.specs.Statements.{statement_of, routing, happening, event_of}
+use Rattle.op_script.proofs.Words.{◌≡◌, ℕ, Bool, true, false, ◌&&◌, cond, List, [], ◌∷◌, Option, None, Some, is_some, option_map, refl, subst, codes, bytes_eq}
+use Rattle.op_script.proofs.Words.{split_once, Word, Event, Sharing, Statement, Happening, statement_of, event_of}
+use Rattle.std.specs.Prelude.{option_and_then}
+use Rattle.basics.specs.Parsing.{parse_number}
+use Rattle.op_script.specs.Statements.{routing, happening}
 use Rattle.op_script.specs.WordSteps.{is_comment}
 
 -- a share's list has a comma

@@ -1,11 +1,10 @@
 -- What a loop has written, when it has written one item more.
-use Rattle.std.proofs.Common.{◌≡◌, ℕ, ◌+◌, ◌<◌, ◌≤◌, true, ◌-◌, zero, suc, subst, Result, Ok, Err, OnOk, drop, List}
-use Rattle.std.proofs.Common.{[], ◌∷◌, ◌++◌, length, get_or, take, map, ap, sym, ◌∙◌, append_assoc, append-nil, arith}
-use Rattle.std.specs.List.{concat, join_with_byte, AllByRecursion}
-use Rattle.std.proofs.lemmas.List.{take_more, take_all, map-append}
+use Rattle.op_script.proofs.Words.{◌≡◌, ℕ, ◌+◌, ◌<◌, ◌≤◌, true, ◌-◌, zero, suc, subst, Result, Ok, Err, drop, List, [], ◌∷◌, ◌++◌, length, get_or, take, map}
+use Rattle.op_script.proofs.Words.{ap, sym, ◌∙◌, append_assoc, append-nil, arith, concat, join_with_byte, AllByRecursion, take_all, map-append, after_commas}
+use Rattle.std.proofs.Common.{OnOk}
+use Rattle.std.proofs.lemmas.List.{take_more}
 use Rattle.std.proofs.lemmas.List.Folds.{concat-append}
 use Rattle.op_script.proofs.ScriptLineLemmas.{All-append}
-use Rattle.flow_filter.specs.FilterText.{after_commas}
 use Rattle.flow_filter.proofs.PrintedPieces.{after_commas-append, join-after_commas}
 
 -- the items so far, and one more

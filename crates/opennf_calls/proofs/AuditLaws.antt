@@ -1,32 +1,25 @@
 -- An audit of the journal that a run wrote, with the same words and inputs, tells a complete run and reports the same.
-use Rattle.std.proofs.Common.{◌≡◌, ℕ, zero, suc, Bool, true, false, List, [], ◌∷◌, Option, None, Some, Ok, length, take, inl, inr, ap, sym, ◌∙◌, subst}
+use Rattle.opennf_calls.proofs.Words.{◌≡◌, ℕ, Bool, true, false, List, [], Option, None, Some, Ok, length, inl, inr, ap, sym, ◌∙◌, subst, Semantics, Trace}
+use Rattle.opennf_calls.proofs.Words.{Report, JournalOut, capture_of, Choice, Schedule, journal_of, NetworkAsked, Scenario, RunResults, given_script, HasRun}
+use Rattle.opennf_calls.proofs.Words.{IsRunOf, head_for, run_given, first_refusal, journal_read, journal_refusal, script_refusal, trace_refusal, from_both}
+use Rattle.opennf_calls.proofs.Words.{from_kind, AreSame, same_scenario}
+use Rattle.std.proofs.Common.{zero, suc, ◌∷◌, take}
 use Rattle.std.specs.Prelude.{slice_get}
 use Rattle.std.specs.declared.alloc.Global.{Global}
 use Rattle.flow_filter.specs.declared.filter.Filter.{Filter}
 use Rattle.flow_filter.specs.declared.packet.Packet.{Packet}
 use Rattle.flow_filter.specs.declared.site.Site.{Site}
-use Rattle.nf_function.specs.Semantics.{Semantics}
-use Rattle.nf_io.specs.declared.outside.Role.TheVariants.{Trace, Report, JournalOut}
 use Rattle.nf_msgs.specs.declared.msg.Msg.{Msg}
 use Rattle.nf_msgs.specs.declared.note.Note.{Note}
-use Rattle.trace_reader.specs.Records.{capture_of}
 use Rattle.op_script.specs.declared.script.Line.{Line}
 use Rattle.op_script.specs.Items.{items}
-use Rattle.actor_net.specs.declared.choice.Choice.{Choice}
-use Rattle.actor_net.specs.declared.schedule.Schedule.{Schedule}
 use Rattle.actor_net.specs.Network.{Network, Stepped, IsRun, is_done, is_enabled, run, world_next}
-use Rattle.journal_file.specs.Reading.{journal_of}
 use Rattle.network_calls.specs.net_world.specs.declared.node.Node.{Node}
 use Rattle.network_calls.specs.net_world.specs.Nodes.{node_ended, node_ready, node_step}
 use Rattle.network_calls.specs.net_world.specs.Start.{started_with}
 use Rattle.network_calls.specs.run_headline.specs.run_report.specs.Lines.{report_text}
-use Rattle.command_words.specs.Requests.{NetworkAsked}
 use Rattle.opennf_calls.specs.Again.{AuditLaw}
-use Rattle.call_files.specs.Scenarios.{Scenario, RunResults, given_script}
-use Rattle.network_calls.specs.NetworkRuns.{HasNoRun, HasRun, IsNoRun, IsRunOf, config_for, head_for, job_for, run_given, start_for}
-use Rattle.call_files.specs.Refusals.{first_refusal, journal_read, journal_refusal, script_refusal, trace_refusal}
-use Rattle.function_kinds.proofs.FunctionLemmas.{from_both, from_kind}
-use Rattle.call_files.proofs.SameInputs.{AreSame, same_scenario}
+use Rattle.network_calls.specs.NetworkRuns.{HasNoRun, IsNoRun, config_for, job_for, start_for}
 
 -- each choice of a run is enabled in its turn
 enabled_at : {A M N : Type 0} (ready : A → M → Bool) (step : A → ℕ → M → Stepped A M N) (cs : List Choice) (w : Network A M N) (i : ℕ) (c : Choice)

@@ -1,21 +1,8 @@
 -- The rows of an audit: the run that its journal tells, or why it tells none.
-use Rattle.std.proofs.Common.{◌≡◌, ℕ, List, [], true, is_some, None, Result, Ok, Err, refl, ap, sym, ◌∙◌}
-use Rattle.std.specs.Prelude.{MatchResult}
-use Rattle.nf_io.specs.declared.outside.Role.{Role}
-use Rattle.nf_io.specs.Meaning.{Meaning}
-use Rattle.actor_net.specs.declared.choice.Choice.{Choice}
-use Rattle.command_words.specs.Requests.{NetworkAsked, asks_audit}
-use Rattle.call_files.specs.declared.status.Status.{Status}
-use Rattle.call_files.specs.declared.status.Status.TheVariants.{NotARun, NoMemory}
-use Rattle.call_files.specs.declared.results.Made.{Made}
-use Rattle.function_kinds.specs.Functions.{OfKind}
-use Rattle.call_files.specs.Scenarios.{RunResults}
-use Rattle.network_calls.specs.NetworkRuns.{HasRun}
-use Rattle.opennf_calls.specs.Outcome.{ForResults, RowOf}
-use Rattle.call_files.specs.Files.{HasInput, IsBound}
+use Rattle.opennf_calls.proofs.Words.{◌≡◌, ℕ, List, [], true, is_some, None, Result, Ok, Err, refl, ap, sym, ◌∙◌, MatchResult, Role, Meaning, Choice}
+use Rattle.opennf_calls.proofs.Words.{NetworkAsked, asks_audit, Status, NotARun, NoMemory, Made, OfKind, RunResults, HasRun, ForResults, RowOf, HasInput}
+use Rattle.opennf_calls.proofs.Words.{IsBound, OnlyRead, gives, from_kind}
 use Rattle.network_calls.specs.RunSteps.{IsRefusedRun}
-use Rattle.call_files.specs.Phases.{OnlyRead, gives}
-use Rattle.function_kinds.proofs.FunctionLemmas.{from_kind}
 use Rattle.opennf_calls.proofs.JournalRows.{JournalTold, ReadsJournal, ToldRun}
 use Rattle.opennf_calls.proofs.RowLemmas.{silent, still_bound}
 use Rattle.opennf_calls.proofs.RunRows.{audit_reads}

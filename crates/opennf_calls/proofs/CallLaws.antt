@@ -1,30 +1,20 @@
 -- The report of each call that ended well has its headline; and two calls of `sim` with the same words and bytes make the same choices and write the
 -- same texts.
-use Rattle.std.proofs.Common.{◌≡◌, ℕ, List, Option, Some, None, refl, sym, ap, ◌∙◌, subst}
+use Rattle.opennf_calls.proofs.Words.{◌≡◌, ℕ, List, Option, Some, None, refl, sym, ap, ◌∙◌, subst, Appends, Semantics, Role, Meaning, Script, Report}
+use Rattle.opennf_calls.proofs.Words.{JournalOut, Schedule, Asked, NetworkAsked, asks_sim, asks_run, asks_audit, Status, is_result, Scenario, RunResults}
+use Rattle.opennf_calls.proofs.Words.{HasRun, IsRunOf, head_for, run_given, Gained, HasResults, IsDone, RowOf, from_both, AreSame, same_scenario}
 use Rattle.std.specs.Prelude.{IsTrue, length}
-use Rattle.std.specs.Io.KnownBytes.{Appends}
-use Rattle.nf_function.specs.Semantics.{Semantics}
-use Rattle.nf_io.specs.declared.outside.Role.{Role}
-use Rattle.nf_io.specs.Meaning.{Meaning}
-use Rattle.nf_io.specs.declared.outside.Role.TheVariants.{Script, Report, JournalOut}
-use Rattle.actor_net.specs.declared.schedule.Schedule.{Schedule}
 use Rattle.journal_file.specs.Format.{journal_bytes}
 use Rattle.network_calls.specs.net_world.specs.Runs.{choices_of}
-use Rattle.command_words.specs.Requests.{Asked, NetworkAsked, asks_sim, asks_run, asks_audit}
 use Rattle.network_calls.specs.run_headline.specs.Subject.{Subject}
 use Rattle.network_calls.specs.run_headline.specs.Text.{HasHeadline}
-use Rattle.call_files.specs.declared.status.Status.{Status}
 use Rattle.opennf_calls.specs.Calls.{Call, OutcomeLaw, SaysHeadline, SimLaw}
-use Rattle.call_files.specs.Command.{is_result}
-use Rattle.call_files.specs.Scenarios.{Scenario, RunResults}
-use Rattle.network_calls.specs.NetworkRuns.{HasRun, IsRunOf, head_for, run_given, subject_for, subject_of}
-use Rattle.call_files.specs.Files.{Gained}
-use Rattle.opennf_calls.specs.Outcome.{HasResults, IsCompletedRun, IsDone, RowOf}
+use Rattle.network_calls.specs.NetworkRuns.{subject_for, subject_of}
+use Rattle.opennf_calls.specs.Outcome.{IsCompletedRun}
 use Rattle.opennf_calls.proofs.AuditLaws.{reports, starts}
-use Rattle.function_kinds.proofs.FunctionLemmas.{from_both, of_behavior, of_kind}
+use Rattle.function_kinds.proofs.FunctionLemmas.{of_behavior, of_kind}
 use Rattle.network_calls.proofs.ScriptedCommands.{scripted_commands}
 use Rattle.network_calls.proofs.ScriptedPoints.{scripted_points}
-use Rattle.call_files.proofs.SameInputs.{AreSame, same_scenario}
 
 -- two runs gave the same
 record GaveTheSame (made again : RunResults) : Type 0 where

@@ -1,26 +1,17 @@
 -- The rows of a command that reads a capture and nothing else.
-use Rattle.std.proofs.Common.{◌≡◌, ℕ, List, [], ◌&&◌, true, false, None, Some, is_some, Ok, Err, Result, refl, ap, sym, ◌∙◌, subst, IsTrue}
-use Rattle.std.proofs.lemmas.Bool.{and_parts}
-use Rattle.nf_io.specs.declared.outside.Role.{Role}
-use Rattle.nf_io.specs.declared.outside.Role.TheVariants.{Trace, Script}
-use Rattle.nf_io.specs.Meaning.{Meaning}
-use Rattle.actor_net.specs.declared.schedule.Schedule.{Schedule}
+use Rattle.opennf_calls.proofs.Words.{◌≡◌, ℕ, List, [], ◌&&◌, true, false, None, Some, is_some, Ok, Err, Result, refl, ap, sym, ◌∙◌, subst, IsTrue, and_parts}
+use Rattle.opennf_calls.proofs.Words.{Role, Trace, Script, Meaning, Schedule, capture_of, Asked, asks_published, asks_strong, Status, Made, file_for, is_input}
+use Rattle.opennf_calls.proofs.Words.{is_read_before, EarlierAreSound, ForResults, HasEarlier, IsRefusedCommand, RowOf, HasInput, IsBound, earlier_refusal}
+use Rattle.opennf_calls.proofs.Words.{refusal_of, trace_refusal, GivesReport, OnlyRead, ReadAlone, reports, one_read}
 use Rattle.trace_reader.specs.declared.trace.Trace.{Trace as Captured}
 use Rattle.trace_reader.specs.declared.fault.TraceFault.{TraceFault}
 use Rattle.trace_reader.specs.declared.fault.TraceFault.TheVariants as fault
 use Rattle.trace_reader.specs.Answers.{AnswersTrace, HasReadCause}
-use Rattle.trace_reader.specs.Records.{capture_of}
-use Rattle.command_words.specs.Requests.{Asked, PublishedAsked, StrongAsked, asks_published, asks_strong}
-use Rattle.call_files.specs.declared.status.Status.{Status}
-use Rattle.call_files.specs.declared.results.Made.{Made}
-use Rattle.call_files.specs.Command.{file_for, is_input, is_read_before, trace_file}
-use Rattle.opennf_calls.specs.Outcome.{AreResults, EarlierAreSound, ForResults, HasEarlier, IsRefusedCommand, RowOf}
-use Rattle.call_files.specs.Files.{HasInput, IsBound}
-use Rattle.call_files.specs.Refusals.{earlier_refusal, refusal_of, trace_refusal}
-use Rattle.call_files.specs.Phases.{GivesReport, OnlyRead, ReadAlone, reports}
+use Rattle.command_words.specs.Requests.{PublishedAsked, StrongAsked}
+use Rattle.call_files.specs.Command.{trace_file}
+use Rattle.opennf_calls.specs.Outcome.{AreResults}
 use Rattle.call_files.specs.Status.{trace_status}
 use Rattle.opennf_calls.proofs.RowLemmas.{OneFile, input_alone, not_before, read_fault, refused, silent}
-use Rattle.call_files.proofs.ReadRoles.{one_read}
 
 -- a command that has a capture alone has one file
 pub one_capture : (asked : Asked) (trace : List ℕ) → ((role : Role) → file_for asked role ≡ trace_file trace role) → OneFile asked Trace

@@ -1,17 +1,6 @@
 -- The row of a command that reads a script and nothing else, where the script gives nothing.
-use Rattle.std.proofs.Common.{[], refl, ap}
-use Rattle.op_script.specs.Reading.{script_of}
-use Rattle.nf_io.specs.declared.outside.Role.{Role}
-use Rattle.nf_io.specs.declared.outside.Role.TheVariants.{Script}
-use Rattle.nf_io.specs.Meaning.{Meaning}
-use Rattle.command_words.specs.Requests.{CheckAsked, asks_check}
-use Rattle.command_words.specs.Values.{names_of}
-use Rattle.call_files.specs.declared.status.Status.{Status}
-use Rattle.call_files.specs.declared.status.Status.TheVariants.{BadScript, ReadFault, NoMemory}
-use Rattle.call_files.specs.Files.{IsBound}
-use Rattle.opennf_calls.specs.Outcome.{RowOf}
-use Rattle.call_files.specs.Refusals.{script_refusal}
-use Rattle.call_files.specs.Phases.{OnlyRead, ScriptFails}
+use Rattle.opennf_calls.proofs.Words.{[], refl, ap, script_of, Role, Script, Meaning, CheckAsked, asks_check, names_of, Status, BadScript, ReadFault, NoMemory}
+use Rattle.opennf_calls.proofs.Words.{IsBound, RowOf, script_refusal, OnlyRead, ScriptFails}
 use Rattle.opennf_calls.proofs.RowLemmas.{first_read, read_fault, refused, silent}
 
 -- the row of the status of a script that gives nothing

@@ -1,15 +1,7 @@
 -- Good input and no fault of the outside leave two statuses, Ok and out of memory, and for a journal whose choices aren't a complete run its own.
-use Rattle.std.proofs.Common.{◌≡◌, ℕ, List, Option, None, Some, refl, sym, ◌∙◌, subst}
-use Rattle.nf_io.specs.declared.outside.Role.{Role}
-use Rattle.nf_io.specs.Meaning.{Meaning, Rose}
-use Rattle.actor_net.specs.declared.choice.Choice.{Choice}
-use Rattle.command_words.specs.Requests.{Asked}
-use Rattle.call_files.specs.declared.status.Status.{Status}
-use Rattle.call_files.specs.declared.status.Status.TheVariants.{Ok as Done, Usage, BadScript, BadTrace, BadJournal, NotARun, ReadFault, WriteFault, NoMemory}
-use Rattle.call_files.specs.declared.outcome.Outcome.{Outcome}
-use Rattle.call_files.specs.Files.{HasInput}
-use Rattle.opennf_calls.specs.Outcome.{RowOf, CauseOf, IsComplete, IsGoodEnd, Is_done, Is_memory, Is_no_run}
-use Rattle.call_files.specs.Refusals.{refusal_of}
+use Rattle.opennf_calls.proofs.Words.{◌≡◌, ℕ, List, Option, None, Some, refl, sym, ◌∙◌, subst, Role, Meaning, Rose, Choice, Asked, Status, Done, Usage}
+use Rattle.opennf_calls.proofs.Words.{BadScript, BadTrace, BadJournal, NotARun, ReadFault, WriteFault, NoMemory, Outcome, HasInput, RowOf, CauseOf, refusal_of}
+use Rattle.opennf_calls.specs.Outcome.{IsComplete, IsGoodEnd, Is_done, Is_memory, Is_no_run}
 
 -- nothing refuses the input, so no status does
 never : (asked : Asked) (bytes : Role → List ℕ) (status : Status) → refusal_of asked bytes ≡ None → refusal_of asked bytes ≡ Some status → ⊥

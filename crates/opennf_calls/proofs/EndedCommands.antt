@@ -1,20 +1,12 @@
 -- What a command that ended leaves, seen from before its files were bound.
-use Rattle.std.proofs.Common.{◌≡◌, ℕ, List, [], Option, None, Some, refl, ap, sym, ◌∙◌, subst, inl, inr}
-use Rattle.nf_io.specs.declared.outside.Role.{Role}
-use Rattle.nf_io.specs.declared.outside.Role.TheVariants.{Errors}
-use Rattle.nf_io.specs.Meaning.{Meaning, Shown, as_named}
+use Rattle.opennf_calls.proofs.Words.{◌≡◌, ℕ, List, [], Option, None, Some, refl, ap, sym, ◌∙◌, subst, inl, inr, Role, Errors, Meaning, Shown, as_named, Asked}
+use Rattle.opennf_calls.proofs.Words.{asks_sim, Outcome, file_for, CauseOf, IsBound, MayBind, WroteNothing, SameContents, Performs, NoMemory}
 use Rattle.command_words.specs.declared.fault.ArgumentsFault.{ArgumentsFault}
 use Rattle.command_words.specs.declared.fault.ArgumentsFault.TheVariants as words
-use Rattle.command_words.specs.Requests.{Asked, asks_sim}
 use Rattle.command_words.specs.Views.{Refuses}
-use Rattle.call_files.specs.declared.outcome.Outcome.{Outcome}
-use Rattle.call_files.specs.Command.{file_for}
-use Rattle.opennf_calls.specs.Outcome.{CauseOf}
-use Rattle.call_files.specs.Files.{IsBound, MayBind, WroteNothing}
-use Rattle.call_files.specs.Phases.{Binds, SameContents}
-use Rattle.opennf_calls.specs.Ended.{HasEnded, Performs}
+use Rattle.call_files.specs.Phases.{Binds}
+use Rattle.opennf_calls.specs.Ended.{HasEnded}
 use Rattle.call_files.specs.Status.{words_status}
-use Rattle.call_files.specs.declared.status.Status.TheVariants.{NoMemory}
 use Rattle.call_files.proofs.BoundFiles.{bound_contents, none_named}
 use Rattle.opennf_calls.proofs.LastLineLemmas.{bound_before, row_around}
 

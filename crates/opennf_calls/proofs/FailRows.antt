@@ -1,21 +1,9 @@
 -- The rows of a failover: what is left by the choices that its journal tells, or why there is nothing.
-use Rattle.std.proofs.Common.{◌≡◌, ℕ, List, [], true, is_some, Result, Ok, Err, refl}
-use Rattle.std.specs.Prelude.{MatchResult}
-use Rattle.nf_io.specs.declared.outside.Role.{Role}
-use Rattle.nf_io.specs.Meaning.{Meaning}
-use Rattle.actor_net.specs.declared.choice.Choice.{Choice}
-use Rattle.command_words.specs.Requests.{FailAsked, asks_fail}
-use Rattle.call_files.specs.declared.status.Status.{Status}
-use Rattle.call_files.specs.declared.status.Status.TheVariants.{NotARun, NoMemory}
-use Rattle.call_files.specs.declared.results.Made.{Made}
+use Rattle.opennf_calls.proofs.Words.{◌≡◌, ℕ, List, [], true, is_some, Result, Ok, Err, refl, MatchResult, Role, Meaning, Choice, FailAsked, asks_fail, Status}
+use Rattle.opennf_calls.proofs.Words.{NotARun, NoMemory, Made, OfKind, Scenario, ForResults, RowOf, HasInput, IsBound, GivesReport, OnlyRead, reports}
+use Rattle.opennf_calls.proofs.Words.{from_kind}
 use Rattle.network_calls.specs.FailRuns.{HasFailover}
-use Rattle.function_kinds.specs.Functions.{OfKind}
-use Rattle.call_files.specs.Scenarios.{Scenario}
-use Rattle.opennf_calls.specs.Outcome.{ForResults, RowOf}
-use Rattle.call_files.specs.Files.{HasInput, IsBound}
-use Rattle.call_files.specs.Phases.{GivesReport, OnlyRead, reports}
 use Rattle.network_calls.specs.RunSteps.{IsRefusedFailover}
-use Rattle.function_kinds.proofs.FunctionLemmas.{from_kind}
 use Rattle.opennf_calls.proofs.JournalRows.{JournalTold, ReadsJournal, ToldRun}
 use Rattle.opennf_calls.proofs.RowLemmas.{silent, still_bound}
 use Rattle.opennf_calls.proofs.RunRows.{fail_reads}

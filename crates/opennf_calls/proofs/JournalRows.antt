@@ -1,25 +1,18 @@
 -- The rows of a command that reads a script, a capture and then a journal.
-use Rattle.std.proofs.Common.{◌≡◌, ℕ, List, [], ◌&&◌, true, length, drop, Option, None, Some, is_some, Result, Ok, Err, refl, ap, sym, ◌∙◌, subst}
+use Rattle.opennf_calls.proofs.Words.{◌≡◌, ℕ, List, [], ◌&&◌, true, length, Option, None, Some, is_some, Result, Ok, Err, refl, ap, sym, ◌∙◌, subst, and_parts}
+use Rattle.opennf_calls.proofs.Words.{Role, Trace, Script, JournalIn, Meaning, Rose, is_read, Choice, journal_of, Asked, NetworkAsked, Status, file_for}
+use Rattle.opennf_calls.proofs.Words.{is_input, is_read_before, with_journal, Scenario, EarlierAreSound, HasEarlier, IsRefusedCommand, RowOf, HasInput}
+use Rattle.opennf_calls.proofs.Words.{IsBound, earlier_refusal, first_refusal, inputs_refusal, journal_read, journal_refusal, refusal_of, HasInputs, OnlyRead}
+use Rattle.opennf_calls.proofs.Words.{ReadAlone, ReadToEnd, TellsInputs, one_read}
+use Rattle.std.proofs.Common.{drop}
 use Rattle.std.specs.Prelude.{IsTrue}
-use Rattle.std.proofs.lemmas.Bool.{and_parts}
-use Rattle.nf_io.specs.declared.outside.Role.{Role}
-use Rattle.nf_io.specs.declared.outside.Role.TheVariants.{Trace, Script, JournalIn}
-use Rattle.nf_io.specs.Meaning.{Meaning, Rose}
-use Rattle.nf_io.specs.Roles.{is_read}
-use Rattle.actor_net.specs.declared.choice.Choice.{Choice}
 use Rattle.journal_file.specs.declared.fault.JournalFault.{JournalFault}
 use Rattle.journal_file.specs.declared.fault.JournalFault.TheVariants as fault
-use Rattle.journal_file.specs.Reading.{GivesFrom, HasReadCause, count_of, journal_of, looked_at}
-use Rattle.command_words.specs.Requests.{Asked, NetworkAsked}
-use Rattle.call_files.specs.declared.status.Status.{Status}
-use Rattle.call_files.specs.Command.{file_for, is_input, is_read_before, with_journal}
-use Rattle.call_files.specs.Scenarios.{Scenario, IsScenario}
-use Rattle.opennf_calls.specs.Outcome.{EarlierAreSound, HasEarlier, IsRefusedCommand, RowOf}
-use Rattle.call_files.specs.Files.{HasInput, IsBound, IsRead}
-use Rattle.call_files.specs.Refusals.{earlier_refusal, first_refusal, inputs_refusal, journal_read, journal_refusal, refusal_of}
-use Rattle.call_files.specs.Phases.{HasInputs, OnlyRead, ReadAlone, ReadToEnd, TellsInputs}
+use Rattle.journal_file.specs.Reading.{GivesFrom, HasReadCause, count_of, looked_at}
+use Rattle.call_files.specs.Scenarios.{IsScenario}
+use Rattle.call_files.specs.Files.{IsRead}
 use Rattle.call_files.specs.Status.{journal_status}
-use Rattle.call_files.proofs.ReadRoles.{more_read, one_read}
+use Rattle.call_files.proofs.ReadRoles.{more_read}
 use Rattle.opennf_calls.proofs.RowLemmas.{not_before, read_fault, refused, silent}
 use Rattle.opennf_calls.proofs.RunRows.{Reads, journal_read_too, tells}
 

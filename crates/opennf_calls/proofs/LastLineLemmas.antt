@@ -1,23 +1,11 @@
 -- A row stays what it is where files were bound before the command began, and a line went to the standard error after it ended.
-use Rattle.std.proofs.Common.{◌≡◌, ◌≢◌, ℕ, List, Bool, ◌&&◌, Option, None, Some, Result, Ok, Err, refl, ap, ◌∙◌, sym, subst, IsTrue, inl, inr}
-use Rattle.std.specs.Io.KnownBytes.{Appends}
-use Rattle.std.proofs.lemmas.Bool.{and_parts}
-use Rattle.nf_io.specs.declared.outside.Role.{Role}
-use Rattle.nf_io.specs.declared.outside.Role.TheVariants.{Errors}
-use Rattle.nf_io.specs.Meaning.{Meaning, Rose, AppendsFront, Shown, as_named}
-use Rattle.actor_net.specs.declared.choice.Choice.{Choice}
-use Rattle.command_words.specs.Requests.{Asked}
-use Rattle.call_files.specs.declared.status.Status.{Status}
-use Rattle.call_files.specs.declared.status.Status.TheVariants.{Ok as Done, Usage, BadScript, BadTrace, BadJournal, NotARun, ReadFault, WriteFault, NoMemory}
-use Rattle.call_files.specs.declared.outcome.Outcome.{Outcome}
-use Rattle.call_files.specs.Command.{is_input, is_read_before, is_result, comes_before}
-use Rattle.call_files.specs.Scenarios.{RunResults}
-use Rattle.call_files.specs.Files.{HasInput, IsBound, MayBind, WroteNothing, WroteResultsAlone, Gained}
-use Rattle.opennf_calls.specs.Outcome.{ForResults, IsDone, IsWriteFault, IsReadFault, IsRefusedCommand, IsNotARun, RowOf, CauseOf, PutsLine}
-use Rattle.call_files.specs.Phases.{SameContents, SameNames}
-use Rattle.call_files.specs.Writing.{Written, Wrote, written}
-use Rattle.call_files.proofs.BoundFiles.{same_named}
-use Rattle.call_files.proofs.RoleLemmas.{at_each}
+use Rattle.opennf_calls.proofs.Words.{◌≡◌, ◌≢◌, ℕ, List, Bool, ◌&&◌, Option, None, Some, Result, Ok, Err, refl, ap, ◌∙◌, sym, subst, IsTrue, inl, inr, Appends}
+use Rattle.opennf_calls.proofs.Words.{and_parts, Role, Errors, Meaning, Rose, AppendsFront, Shown, as_named, Choice, Asked, Status, Done, Usage, BadScript}
+use Rattle.opennf_calls.proofs.Words.{BadTrace, BadJournal, NotARun, ReadFault, WriteFault, NoMemory, Outcome, is_input, is_read_before, is_result}
+use Rattle.opennf_calls.proofs.Words.{comes_before, RunResults, HasInput, IsBound, MayBind, WroteNothing, WroteResultsAlone, Gained, ForResults, IsDone}
+use Rattle.opennf_calls.proofs.Words.{IsReadFault, IsRefusedCommand, RowOf, CauseOf, SameContents, SameNames, Written, Wrote, same_named, at_each}
+use Rattle.opennf_calls.specs.Outcome.{IsWriteFault, IsNotARun, PutsLine}
+use Rattle.call_files.specs.Writing.{written}
 use Rattle.opennf_calls.proofs.RowLemmas.{later_results, not_errors, not_last}
 
 -- the states before and after a command, the state before its files were bound, and the state after the last line

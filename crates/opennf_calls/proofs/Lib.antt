@@ -1,3 +1,4 @@
+pub mod Words
 pub mod AuditLaws
 pub mod AuditRows
 pub mod CallLaws

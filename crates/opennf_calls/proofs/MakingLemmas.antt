@@ -1,23 +1,15 @@
 -- What a command that makes a capture did, from what the making answered.
-use Rattle.std.proofs.Common.{◌≡◌, ◌≤◌, ℕ, List, [], Err, refl, subst, ◌⊎◌, inl, inr, IsTrue}
-use Rattle.nf_io.specs.declared.outside.Role.{Role}
-use Rattle.nf_io.specs.declared.outside.Role.TheVariants.{Trace, Report, TraceOut, Errors}
-use Rattle.nf_io.specs.Meaning.{Meaning, Rose, OthersStay}
+use Rattle.opennf_calls.proofs.Words.{◌≡◌, ℕ, List, [], Err, refl, subst, ◌⊎◌, inl, inr, IsTrue, Role, Trace, Report, TraceOut, Errors, Meaning, Rose, Outcome}
+use Rattle.opennf_calls.proofs.Words.{is_input, is_result, RunResults, ForResults, IsBound, OnlyRead, Performs, Wrote, WroteReport, all_of, at_each}
+use Rattle.std.proofs.Common.{◌≤◌}
+use Rattle.nf_io.specs.Meaning.{OthersStay}
 use Rattle.trace_reader.specs.Generated.{capture}
 use Rattle.trace_reader.specs.Making.{Makes}
 use Rattle.trace_reader.specs.declared.make.MakeFault.{MakeFault}
 use Rattle.trace_reader.specs.declared.make.MakeFault.TheVariants.{Write, NoMemory}
 use Rattle.command_words.specs.Requests.{GenAsked, asks_gen}
-use Rattle.call_files.specs.declared.outcome.Outcome.{Outcome}
-use Rattle.call_files.specs.Command.{is_input, is_result}
-use Rattle.call_files.specs.Scenarios.{RunResults}
-use Rattle.opennf_calls.specs.Outcome.{ForResults, gen_line}
-use Rattle.call_files.specs.Files.{IsBound}
-use Rattle.call_files.specs.Phases.{OnlyRead}
-use Rattle.opennf_calls.specs.Ended.{Performs}
+use Rattle.opennf_calls.specs.Outcome.{gen_line}
 use Rattle.call_files.specs.Status.{making_status}
-use Rattle.call_files.specs.Writing.{Wrote, WroteReport, all_of}
-use Rattle.call_files.proofs.RoleLemmas.{at_each}
 use Rattle.opennf_calls.proofs.WrittenRuns.{by_part}
 use Rattle.opennf_calls.proofs.TwoResults.{GivesBoth, WritesFirst, both_written, file_failed, second_failed}
 

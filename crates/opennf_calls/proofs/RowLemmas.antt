@@ -1,24 +1,11 @@
 -- From what a command did to the roles that it used to the row of its status, which speaks of all roles.
-use Rattle.std.proofs.Common.{◌≡◌, ◌≢◌, ℕ, List, [], Bool, true, false, ◌&&◌, None, Some, is_some, refl, ap, ◌∙◌, sym, subst, IsTrue, inl, inr}
-use Rattle.std.specs.Io.KnownBytes.{Appends}
-use Rattle.std.proofs.lemmas.Bool.{and_parts}
-use Rattle.nf_io.specs.declared.outside.Role.{Role}
-use Rattle.nf_io.specs.declared.outside.Role.TheVariants.{Trace, Script, Report, JournalOut, TraceOut, Errors}
-use Rattle.nf_io.specs.Meaning.{Meaning, Rose, AppendsFront}
-use Rattle.nf_io.specs.Roles.{is_read}
-use Rattle.actor_net.specs.declared.choice.Choice.{Choice}
-use Rattle.command_words.specs.Requests.{Asked, CheckAsked, asks_check}
-use Rattle.call_files.specs.declared.status.Status.{Status}
-use Rattle.call_files.specs.declared.status.Status.TheVariants.{Ok as Done, WriteFault}
-use Rattle.call_files.specs.Command.{file_for, is_input, is_read_before, is_result, comes_before}
-use Rattle.opennf_calls.specs.Outcome.{EarlierAreSound, HasEarlier, HasResults, ForResults, IsReadFault, IsRefusedCommand, RowOf}
-use Rattle.call_files.specs.Files.{HasInput, IsBound, WroteNothing, WroteResultsAlone, Gained}
-use Rattle.call_files.specs.Refusals.{earlier_refusal, refusal_of}
-use Rattle.call_files.specs.Scenarios.{RunResults}
-use Rattle.call_files.specs.Phases.{GivesReport, OnlyRead, SameNames}
-use Rattle.opennf_calls.specs.Ended.{Performs}
-use Rattle.call_files.specs.Writing.{Gains, Written, all_of, front_of, Wrote}
-use Rattle.call_files.proofs.RoleLemmas.{at_each, this_or_other}
+use Rattle.opennf_calls.proofs.Words.{◌≡◌, ◌≢◌, ℕ, List, [], Bool, true, false, ◌&&◌, None, Some, is_some, refl, ap, ◌∙◌, sym, subst, IsTrue, inl, inr}
+use Rattle.opennf_calls.proofs.Words.{Appends, and_parts, Role, Trace, Script, Report, JournalOut, TraceOut, Errors, Meaning, Rose, AppendsFront, is_read}
+use Rattle.opennf_calls.proofs.Words.{Choice, Asked, CheckAsked, asks_check, Status, Done, WriteFault, file_for, is_input, is_read_before, is_result}
+use Rattle.opennf_calls.proofs.Words.{comes_before, EarlierAreSound, HasEarlier, HasResults, ForResults, IsReadFault, IsRefusedCommand, RowOf, HasInput}
+use Rattle.opennf_calls.proofs.Words.{IsBound, WroteNothing, WroteResultsAlone, Gained, earlier_refusal, refusal_of, RunResults, GivesReport, OnlyRead}
+use Rattle.opennf_calls.proofs.Words.{SameNames, Performs, Gains, Written, all_of, front_of, Wrote, at_each}
+use Rattle.call_files.proofs.RoleLemmas.{this_or_other}
 
 -- a role that is read isn't one that is written
 pub not_report : (asked : Asked) (role : Role) → IsTrue (is_input asked role) → role ≢ Report

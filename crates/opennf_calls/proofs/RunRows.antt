@@ -1,21 +1,12 @@
 -- The rows of the commands that run the network: what is wrong with their inputs, what their run gives, and why there is none.
-use Rattle.std.proofs.Common.{◌≡◌, ℕ, List, [], ◌&&◌, true, Option, None, Some, is_some, refl, ap, sym, ◌∙◌, IsTrue}
-use Rattle.std.proofs.lemmas.Bool.{and_parts}
-use Rattle.nf_io.specs.declared.outside.Role.{Role}
-use Rattle.nf_io.specs.declared.outside.Role.TheVariants.{Trace, Script, JournalIn, JournalOut}
-use Rattle.nf_io.specs.Meaning.{Meaning}
-use Rattle.nf_io.specs.Roles.{is_read}
-use Rattle.actor_net.specs.declared.schedule.Schedule.{Schedule}
-use Rattle.command_words.specs.Requests.{Asked, FailAsked, NetworkAsked, asks_sim, asks_run, asks_audit, asks_fail}
-use Rattle.call_files.specs.declared.status.Status.{Status}
-use Rattle.call_files.specs.declared.status.Status.TheVariants.{BadScript, BadTrace, ReadFault, NoMemory}
-use Rattle.call_files.specs.Command.{is_input, is_read_before, run_file, with_journal}
-use Rattle.call_files.specs.Scenarios.{Scenario, RunResults, given_script}
-use Rattle.network_calls.specs.NetworkRuns.{HasRun}
-use Rattle.opennf_calls.specs.Outcome.{EarlierAreSound, ForResults, HasEarlier, IsRefusedCommand, RowOf}
-use Rattle.call_files.specs.Files.{HasInput, IsBound}
-use Rattle.call_files.specs.Refusals.{earlier_refusal, first_refusal, inputs_refusal, journal_read, journal_refusal, refusal_of, script_refusal}
-use Rattle.call_files.specs.Phases.{HasInputs, InputsFail, IsSoundBefore, OnlyRead, ReadToEnd, RefusesInputs, ScriptIsSound, TellsInputs, TellsScript}
+use Rattle.opennf_calls.proofs.Words.{◌≡◌, ℕ, List, [], ◌&&◌, true, Option, None, Some, is_some, refl, ap, sym, ◌∙◌, IsTrue, and_parts, Role, Trace, Script}
+use Rattle.opennf_calls.proofs.Words.{JournalIn, JournalOut, Meaning, is_read, Schedule, Asked, FailAsked, NetworkAsked, asks_sim, asks_run, asks_audit}
+use Rattle.opennf_calls.proofs.Words.{asks_fail, Status, BadScript, BadTrace, ReadFault, NoMemory, is_input, is_read_before, with_journal, Scenario}
+use Rattle.opennf_calls.proofs.Words.{RunResults, given_script, HasRun, EarlierAreSound, ForResults, HasEarlier, IsRefusedCommand, RowOf, HasInput, IsBound}
+use Rattle.opennf_calls.proofs.Words.{earlier_refusal, first_refusal, inputs_refusal, journal_read, journal_refusal, refusal_of, script_refusal, HasInputs}
+use Rattle.opennf_calls.proofs.Words.{OnlyRead, ReadToEnd, TellsInputs}
+use Rattle.call_files.specs.Command.{run_file}
+use Rattle.call_files.specs.Phases.{InputsFail, IsSoundBefore, RefusesInputs, ScriptIsSound, TellsScript}
 use Rattle.opennf_calls.proofs.RowLemmas.{first_read, not_before, read_fault, refused, silent}
 
 -- the files of a run of the network are inputs, where its journal is written and where it is read

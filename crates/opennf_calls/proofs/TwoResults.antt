@@ -1,23 +1,11 @@
 -- The row of a command that reads its inputs, if it has any, writes one file, and then the report.
-use Rattle.std.proofs.Common.{◌≡◌, ◌≢◌, ℕ, List, false, not, ◌&&◌, is_some, refl, ap, ◌∙◌, sym, subst, IsTrue, ◌⊎◌, inl, inr}
-use Rattle.std.specs.Io.KnownBytes.{Appends}
-use Rattle.std.proofs.lemmas.Bool.{and_parts}
-use Rattle.nf_io.specs.declared.outside.Role.{Role}
-use Rattle.nf_io.specs.declared.outside.Role.TheVariants.{Report, Errors}
-use Rattle.nf_io.specs.Meaning.{Meaning, Rose, AppendsFront}
-use Rattle.nf_io.specs.Roles.{is_read, same_role}
-use Rattle.actor_net.specs.declared.choice.Choice.{Choice}
-use Rattle.command_words.specs.Requests.{Asked}
-use Rattle.call_files.specs.declared.status.Status.{Status}
-use Rattle.call_files.specs.declared.status.Status.TheVariants.{Ok as Done, WriteFault}
-use Rattle.call_files.specs.Command.{file_for, is_input, is_result, comes_before}
-use Rattle.call_files.specs.Scenarios.{RunResults}
-use Rattle.opennf_calls.specs.Outcome.{ForResults, RowOf}
-use Rattle.call_files.specs.Files.{IsBound, WroteResultsAlone, Gained}
-use Rattle.call_files.specs.Phases.{OnlyRead, SameNames}
-use Rattle.opennf_calls.specs.Ended.{Performs}
-use Rattle.call_files.specs.Writing.{Gains, Written, all_of, front_of, Wrote}
-use Rattle.call_files.proofs.RoleLemmas.{at_each, other_place}
+use Rattle.opennf_calls.proofs.Words.{◌≡◌, ◌≢◌, ℕ, List, false, ◌&&◌, is_some, refl, ap, ◌∙◌, sym, subst, IsTrue, ◌⊎◌, inl, inr, Appends, and_parts, Role}
+use Rattle.opennf_calls.proofs.Words.{Report, Errors, Meaning, Rose, AppendsFront, is_read, Choice, Asked, Status, Done, WriteFault, file_for, is_input}
+use Rattle.opennf_calls.proofs.Words.{is_result, comes_before, RunResults, ForResults, RowOf, IsBound, WroteResultsAlone, Gained, OnlyRead, SameNames}
+use Rattle.opennf_calls.proofs.Words.{Performs, Gains, Written, all_of, front_of, Wrote, at_each}
+use Rattle.std.proofs.Common.{not}
+use Rattle.nf_io.specs.Roles.{same_role}
+use Rattle.call_files.proofs.RoleLemmas.{other_place}
 use Rattle.opennf_calls.proofs.RowLemmas.{later_results, not_last, not_report}
 
 -- the command has a result at this role, which is written before the report, and no other

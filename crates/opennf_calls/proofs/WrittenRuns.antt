@@ -1,23 +1,9 @@
 -- The row of a command that runs the network, from what it gives and what was written.
-use Rattle.std.proofs.Common.{◌≡◌, ℕ, List, [], None, is_some, false, refl, ap, sym, ◌∙◌, subst, IsTrue, ◌⊎◌, inl, inr}
-use Rattle.nf_io.specs.declared.outside.Role.{Role}
-use Rattle.nf_io.specs.declared.outside.Role.TheVariants.{Report, JournalOut, TraceOut}
-use Rattle.nf_io.specs.Meaning.{Meaning}
-use Rattle.actor_net.specs.declared.choice.Choice.{Choice}
-use Rattle.actor_net.specs.declared.schedule.Schedule.{Schedule}
-use Rattle.command_words.specs.Requests.{Asked, FailAsked, NetworkAsked, asks_sim, asks_run, asks_audit, asks_fail}
-use Rattle.call_files.specs.declared.status.Status.{Status}
-use Rattle.call_files.specs.declared.status.Status.TheVariants.{Ok as Done, WriteFault, NoMemory}
-use Rattle.call_files.specs.declared.outcome.Outcome.{Outcome}
-use Rattle.call_files.specs.declared.results.Made.{Made}
-use Rattle.call_files.specs.Command.{file_for, is_result, with_journal}
-use Rattle.call_files.specs.Scenarios.{RunResults}
-use Rattle.opennf_calls.specs.Outcome.{ForResults}
-use Rattle.call_files.specs.Files.{IsBound}
-use Rattle.call_files.specs.Phases.{GivesReport, OnlyRead, gives}
-use Rattle.opennf_calls.specs.Ended.{Performs}
-use Rattle.call_files.specs.Writing.{Written, all_of, front_of, is_part, report_end, Wrote, WroteReport, WroteBoth, WroteFront, WroteRun, Report_alone, Both}
-use Rattle.call_files.specs.Writing.{Front_alone, Nothing}
+use Rattle.opennf_calls.proofs.Words.{◌≡◌, ℕ, List, [], None, is_some, false, refl, ap, sym, ◌∙◌, subst, IsTrue, ◌⊎◌, inl, inr, Role, Report, JournalOut}
+use Rattle.opennf_calls.proofs.Words.{TraceOut, Meaning, Choice, Schedule, Asked, FailAsked, NetworkAsked, asks_sim, asks_run, asks_audit, asks_fail, Status}
+use Rattle.opennf_calls.proofs.Words.{Done, WriteFault, NoMemory, Outcome, Made, file_for, is_result, with_journal, RunResults, ForResults, IsBound}
+use Rattle.opennf_calls.proofs.Words.{GivesReport, OnlyRead, gives, Performs, Written, all_of, front_of, Wrote, WroteReport}
+use Rattle.call_files.specs.Writing.{is_part, report_end, WroteBoth, WroteFront, WroteRun, Report_alone, Both, Front_alone, Nothing}
 use Rattle.opennf_calls.proofs.RowLemmas.{ends, report_failed, report_written, silent}
 use Rattle.opennf_calls.proofs.TwoResults.{GivesBoth, WritesFirst, both_written, file_failed, second_failed}
 

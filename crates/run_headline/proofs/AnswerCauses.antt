@@ -1,49 +1,28 @@
 -- The answer to each command of a completed run has its true cause, in the words of the headline.
-use Rattle.std.proofs.Common.{◌≡◌, ℕ, ◌+◌, ◌<◌, Bool, true, false, not, ◌&&◌, ◌||◌, Option, Some, None, List, [], ◌∷◌, map, refl, sym, ap, ◌∙◌, subst, arith}
-use Rattle.std.specs.Prelude.{◌==◌, nat_lt, option_map, option_and_then, if◌then◌else◌, slice_index, slice_index_or}
-use Rattle.std.specs.List.{AllByRecursion, AllZip, list_any, position_or_len}
-use Rattle.std.specs.Option.{option_map_or}
-use Rattle.std.specs.declared.alloc.Global.{Global}
-use Rattle.std.proofs.Math.Bool.{or-true}
-use Rattle.std.proofs.lemmas.Bool.Decides.{nat_tests, Decides-ltb}
-use Rattle.std.proofs.lemmas.Bool.{and_parts}
-use Rattle.flow_filter.specs.declared.filter.Filter.{Filter}
+use Rattle.run_headline.proofs.Words.{◌≡◌, ℕ, ◌+◌, ◌<◌, Bool, true, false, not, ◌&&◌, ◌||◌, Option, Some, None, List, [], ◌∷◌, map, refl, sym, ap, ◌∙◌, subst}
+use Rattle.run_headline.proofs.Words.{arith, ◌==◌, nat_lt, option_map, if◌then◌else◌, slice_index_or, AllByRecursion, list_any, position_or_len, option_map_or}
+use Rattle.run_headline.proofs.Words.{Global, or-true, nat_tests, Decides-ltb, and_parts, Filter, FunctionLaws, Semantics, Answer, Command, Order, Move, Copy}
+use Rattle.run_headline.proofs.Words.{Share, Msg, Note, unknown_in, Choice, Network, run, Config, Node, answers_of, before_command, has_answered}
+use Rattle.run_headline.proofs.Words.{is_of_command, commands, order_numbered, course_of, job_of, node_step, started_with, is_refusal, answer_in, is_noted}
+use Rattle.run_headline.proofs.Words.{by_number, is_answered, IsCompleted, subject, Setting, setting_of}
+use Rattle.std.specs.Prelude.{option_and_then, slice_index}
+use Rattle.std.specs.List.{AllZip}
 use Rattle.flow_filter.specs.Filter.{meets}
 use Rattle.nf_function.specs.declared.unit.Unit as units
-use Rattle.nf_function.specs.Records.{Laws as FunctionLaws}
-use Rattle.nf_function.specs.Semantics.{Semantics}
 use Rattle.nf_function.specs.Stored.{plain_version, timed_version}
 use Rattle.nf_function.specs.Units.{has_times}
-use Rattle.nf_msgs.specs.declared.answer.Answer.{Answer}
 use Rattle.nf_msgs.specs.declared.answer.Answer.TheVariants as answers
-use Rattle.nf_msgs.specs.declared.command.Command.{Command}
-use Rattle.nf_msgs.specs.declared.command.Order.{Order}
-use Rattle.nf_msgs.specs.declared.command.Order.TheVariants.{Move, Copy, Share}
-use Rattle.nf_msgs.specs.declared.msg.Msg.{Msg}
-use Rattle.nf_msgs.specs.declared.note.Note.{Note}
 use Rattle.nf_msgs.specs.Orders.{order_filter}
-use Rattle.ctrl_node.specs.Controller.{unknown_in}
-use Rattle.actor_net.specs.declared.choice.Choice.{Choice}
-use Rattle.actor_net.specs.Network.{Network, run}
-use Rattle.net_world.specs.declared.config.Config.{Config}
-use Rattle.net_world.specs.declared.node.Node.{Node}
 use Rattle.net_world.specs.Commands as commands_noted
-use Rattle.net_world.specs.Commands.{answers_of, before_command, has_answered, keeps_off, is_of_command}
-use Rattle.net_world.specs.Input.{commands, order_numbered}
-use Rattle.net_world.specs.Jobs.{course_of, job_of}
-use Rattle.net_world.specs.Nodes.{node_step}
-use Rattle.net_world.specs.Start.{started_with}
-use Rattle.net_world.specs.Verdicts.{Weighed, is_refusal, receiver_of, verdict, IsVerdict}
-use Rattle.net_world.specs.Log.{answer_in, begin_in}
+use Rattle.net_world.specs.Commands.{keeps_off}
+use Rattle.net_world.specs.Verdicts.{Weighed, receiver_of, verdict, IsVerdict}
+use Rattle.net_world.specs.Log.{begin_in}
 use Rattle.net_world.proofs.PickedLists.{any_front}
-use Rattle.run_report.specs.nf_net.proofs.answers.BusyLemmas.{is_noted, none_answered}
-use Rattle.report_lines.specs.Lines.{by_number}
-use Rattle.run_headline.specs.Causes.{AreTrue, HasCause, is_answered, orders_meet}
-use Rattle.run_headline.specs.Law.{IsCompleted, subject}
+use Rattle.run_report.specs.nf_net.proofs.answers.BusyLemmas.{none_answered}
+use Rattle.run_headline.specs.Causes.{AreTrue, HasCause, orders_meet}
 use Rattle.run_headline.proofs.AnswerLines.{IsOnly, Line, answer_to, found_any, only, so_answered}
 use Rattle.run_headline.proofs.CommandOrder.{run_in_turn}
 use Rattle.run_headline.proofs.FoundNumbers.{IsFound, all_found}
-use Rattle.run_report.specs.proof_outlines.proofs.joined.Setting.{Setting, setting_of}
 
 -- what began before the first note of a command began
 began_before : (op k : ℕ) (log : List Note) → commands_noted.is_begun k (before_command op log) ≡ true → commands_noted.is_begun k log ≡ true

@@ -1,25 +1,11 @@
 -- The lines of answers: each command of the script has one, with the one answer that the log has for it.
-use Rattle.std.proofs.Common.{◌≡◌, ℕ, ◌≤◌, Bool, true, false, ◌&&◌, ◌||◌, cond, Some, List, [], ◌∷◌, ◌++◌, length, map, append_assoc, refl, sym, ap, ◌∙◌, subst}
-use Rattle.std.proofs.Common.{arith}
-use Rattle.std.specs.Prelude.{◌==◌, filter, find, option_map, if◌then◌else◌}
-use Rattle.std.specs.List.{AllByRecursion, list_any}
-use Rattle.std.specs.Ordering.{nat_cmp, is_lt}
-use Rattle.std.proofs.lemmas.Bool.Decides.{nat_tests}
-use Rattle.std.proofs.lemmas.List.{map-append}
-use Rattle.std.proofs.lemmas.List.Elements.{filter-append}
-use Rattle.std.proofs.Math.Bool.{or-false, or-true}
-use Rattle.nf_msgs.specs.declared.answer.Answer.{Answer}
-use Rattle.nf_msgs.specs.declared.command.Command.{Command}
-use Rattle.nf_msgs.specs.declared.command.Order.{Order}
-use Rattle.nf_msgs.specs.declared.msg.Msg.{Msg}
-use Rattle.nf_msgs.specs.declared.note.Note.{Note}
-use Rattle.net_world.specs.Commands.{answers_of}
-use Rattle.net_world.specs.Input.{commands, order_numbered}
-use Rattle.net_world.specs.Log.{answer_in, answers_in}
+use Rattle.run_headline.proofs.Words.{◌≡◌, ℕ, ◌≤◌, Bool, true, false, ◌&&◌, ◌||◌, cond, Some, List, [], ◌∷◌, ◌++◌, length, map, refl, sym, ap, ◌∙◌, subst}
+use Rattle.run_headline.proofs.Words.{arith, ◌==◌, filter, find, option_map, if◌then◌else◌, AllByRecursion, list_any, nat_cmp, is_lt, nat_tests, map-append}
+use Rattle.run_headline.proofs.Words.{filter-append, or-false, or-true, Answer, Command, Order, Msg, Note, answers_of, commands, order_numbered, answer_in}
+use Rattle.run_headline.proofs.Words.{by_number, put_in, sorted_by, is_answered}
+use Rattle.std.proofs.Common.{append_assoc}
+use Rattle.net_world.specs.Log.{answers_in}
 use Rattle.net_world.proofs.PickedLists.{some_kept}
-use Rattle.report_lines.specs.Lines.{by_number}
-use Rattle.report_lines.specs.Sorting.{put_in, sorted_by}
-use Rattle.run_headline.specs.Causes.{is_answered}
 use Rattle.run_headline.proofs.SortedParts.{all_sorted}
 
 -- an answer with the number of its command

@@ -1,31 +1,20 @@
 -- What a step of the controller notes of commands: of one that it is asked for, that it begins or is refused, and else of those that are open alone.
-use Rattle.std.proofs.Common.{◌≡◌, ℕ, Bool, true, false, Option, Some, None, List, [], ◌∷◌, refl, sym, ap, ◌∙◌, subst}
-use Rattle.std.specs.Prelude.{if◌then◌else◌, ◌==◌, ◌||◌, is_some}
+use Rattle.run_headline.proofs.Words.{◌≡◌, ℕ, Bool, true, false, Option, Some, None, List, [], ◌∷◌, refl, sym, ap, ◌∙◌, subst, if◌then◌else◌, ◌==◌, is_some}
+use Rattle.run_headline.proofs.Words.{or-false, Decides-eqb, Filter, FullCell, Answer, Command, Order, Msg, Note, Operation, ControllerState, place_of}
+use Rattle.run_headline.proofs.Words.{controller_step, before_command, is_of_command, is_noted}
+use Rattle.std.specs.Prelude.{◌||◌}
 use Rattle.std.specs.List.{filter_map}
 use Rattle.std.specs.FinMap as finite
-use Rattle.std.proofs.Math.Bool.{or-false}
-use Rattle.std.proofs.lemmas.Bool.Decides.{Decides-eqb}
-use Rattle.flow_filter.specs.declared.filter.Filter.{Filter}
-use Rattle.packet_pool.specs.Pool.{FullCell}
-use Rattle.nf_msgs.specs.declared.answer.Answer.{Answer}
-use Rattle.nf_msgs.specs.declared.command.Command.{Command}
-use Rattle.nf_msgs.specs.declared.command.Order.{Order}
 use Rattle.nf_msgs.specs.declared.command.Order.TheVariants as order
-use Rattle.nf_msgs.specs.declared.msg.Msg.{Msg}
 use Rattle.nf_msgs.specs.declared.msg.Msg.TheVariants as msg
-use Rattle.nf_msgs.specs.declared.note.Note.{Note}
 use Rattle.nf_msgs.specs.declared.note.Note.TheVariants as note
 use Rattle.nf_msgs.specs.Nodes.{switch_node}
 use Rattle.copy_share.specs.Share.{ShareState}
-use Rattle.ctrl_node.specs.declared.operation.Operation.{Operation}
 use Rattle.ctrl_node.specs.declared.operation.Operation.TheVariants.{Share}
 use Rattle.ctrl_node.specs.Operations.{turn_of}
-use Rattle.ctrl_node.specs.Controller.{ControllerState, Step, still, refusal, move_between, copy_between, share_begin, begin_step, decision_step, on_asked}
-use Rattle.flow_filter.specs.Name.{place_of}
-use Rattle.ctrl_node.specs.Controller.{on_diverted, queue_step, after_turn, takes_turn, hand_step, controller_step}
-use Rattle.net_world.specs.Commands.{before_command, is_of_command}
+use Rattle.ctrl_node.specs.Controller.{Step, still, refusal, move_between, copy_between, share_begin, begin_step, decision_step, on_asked, on_diverted}
+use Rattle.ctrl_node.specs.Controller.{queue_step, after_turn, takes_turn, hand_step}
 use Rattle.net_world.proofs.PickedLists.{before_one}
-use Rattle.run_report.specs.nf_net.proofs.answers.BusyLemmas.{is_noted}
 use Rattle.run_report.specs.nf_net.proofs.answers.ControllerCases.{by_operation, by_queue}
 use Rattle.run_report.specs.nf_net.proofs.answers.ShareTells.{ShareStep, handed_share, queued_share}
 use Rattle.run_report.specs.proof_outlines.proofs.outline.ControllerWays.{row_by}

@@ -1,41 +1,26 @@
 -- In every run commands begin and are refused in the order of their numbers: what began before the first note of a command has a lower number.
-use Rattle.std.proofs.Common.{◌≡◌, ℕ, zero, suc, ◌+◌, ◌<◌, ◌≤◌, true, false, List, [], ◌++◌, length, refl, sym, ap, ◌∙◌, subst, append-nil, inl, inr, arith}
-use Rattle.std.specs.Prelude.{if◌then◌else◌, ◌||◌, ◌==◌, ◌⊎◌, nat_lt}
+use Rattle.run_headline.proofs.Words.{◌≡◌, ℕ, zero, suc, ◌+◌, ◌<◌, ◌≤◌, true, false, List, [], ◌++◌, length, refl, sym, ap, ◌∙◌, subst, append-nil, arith}
+use Rattle.run_headline.proofs.Words.{if◌then◌else◌, ◌==◌, nat_lt, nat_tests, Decides-ltb, FunctionLaws, Semantics, Command, Msg, Note, Choice, Network}
+use Rattle.run_headline.proofs.Words.{Stepped, world_next, at, Taking, run_induction, Takes, taken_outcome, controller_step, switch_step, Node, is_begun}
+use Rattle.run_headline.proofs.Words.{before_command, has_answered, node_ready, node_step, Given, Joined, Label, node_of, Runs, runs_at_start, runs_next}
+use Rattle.run_headline.proofs.Words.{start_world, count_at_start, given, is_noted, Busy, and_parts, Setting, start, IsCourse, world_of}
+use Rattle.std.proofs.Common.{inl, inr}
+use Rattle.std.specs.Prelude.{◌||◌, ◌⊎◌}
 use Rattle.std.specs.FinMap as finite
-use Rattle.std.proofs.lemmas.Bool.Decides.{nat_tests, Decides-ltb}
-use Rattle.nf_function.specs.Records.{Laws as FunctionLaws}
-use Rattle.nf_function.specs.Semantics.{Semantics}
-use Rattle.nf_msgs.specs.declared.command.Command.{Command}
-use Rattle.nf_msgs.specs.declared.msg.Msg.{Msg}
 use Rattle.nf_msgs.specs.declared.msg.Msg.TheVariants as msg
-use Rattle.nf_msgs.specs.declared.note.Note.{Note}
-use Rattle.actor_net.specs.declared.choice.Choice.{Choice}
-use Rattle.actor_net.specs.Network.{Network, Stepped, world_next}
-use Rattle.actor_net.proofs.EnabledChoices.{at}
 use Rattle.actor_net.proofs.LinkLemmas.{neither}
-use Rattle.actor_net.proofs.RunInduction.{Taking, run_induction}
-use Rattle.actor_net.proofs.StepOutcome.{Outcome, Takes, taken_outcome}
+use Rattle.actor_net.proofs.StepOutcome.{Outcome}
 use Rattle.run_report.specs.proof_machines.proofs.unit.Labels.{Each}
 use Rattle.run_report.specs.proof_machines.proofs.net.Waits.{Rising}
-use Rattle.ctrl_node.specs.Controller.{controller_step}
-use Rattle.switch_node.specs.Switch.{switch_step}
-use Rattle.net_world.specs.declared.node.Node.{Node}
-use Rattle.net_world.specs.Commands.{is_begun, before_command, has_answered}
-use Rattle.net_world.specs.Nodes.{node_ready, node_step}
 use Rattle.net_world.proofs.LogLemmas.{has_begun-append, has_answered-append}
-use Rattle.run_report.specs.proof_outlines.proofs.joined.Given.{Given}
-use Rattle.run_report.specs.proof_outlines.proofs.joined.Joined.{Joined, Label, count, node_of}
-use Rattle.run_report.specs.proof_outlines.proofs.joined.RunsJoined.{Runs, runs_at_start, runs_next, start_world}
-use Rattle.run_report.specs.proof_outlines.proofs.joined.StartJoined.{count_at_start, given}
+use Rattle.run_report.specs.proof_outlines.proofs.joined.Joined.{count}
 use Rattle.run_report.specs.nf_net.proofs.answers.BusyController.{told_in}
-use Rattle.run_report.specs.nf_net.proofs.answers.BusyLemmas.{AreOther, before_kept, before_new, is_noted, or_off, other_not_answered, other_not_begun}
+use Rattle.run_report.specs.nf_net.proofs.answers.BusyLemmas.{AreOther, before_kept, before_new, or_off, other_not_answered, other_not_begun}
 use Rattle.run_report.specs.nf_net.proofs.answers.BusyNodes.{instance_says, switch_hands}
-use Rattle.run_report.specs.nf_net.proofs.answers.BusyRuns.{Busy, busy_next, keeps_is, share_is, waits_of}
+use Rattle.run_report.specs.nf_net.proofs.answers.BusyRuns.{busy_next, keeps_is, share_is, waits_of}
 use Rattle.run_report.specs.nf_net.proofs.answers.CommandPromises.{start_busy}
 use Rattle.run_report.specs.nf_net.proofs.answers.LinePicks.{at_controller as way_at_controller}
-use Rattle.std.proofs.lemmas.Bool.{and_parts}
 use Rattle.run_headline.proofs.CommandNotes.{OfThese, step_asked, step_open}
-use Rattle.run_report.specs.proof_outlines.proofs.joined.Setting.{Setting, start, IsCourse, world_of}
 
 -- what began before the first note of a command that is noted has a lower number
 abbrev pub InTurn : List Note → Type 0

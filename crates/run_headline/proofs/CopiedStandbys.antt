@@ -1,58 +1,30 @@
 -- What each copy that is done took stands by at its destination at the end of a completed run, or what is newer; with all else that stands by.
-use Rattle.std.proofs.Common.{◌≡◌, ℕ, ◌+◌, ◌≤◌, Bool, true, false, ◌||◌, not, cond, Option, Some, None, List, [], ◌∷◌, ◌++◌, append_assoc, length}
-use Rattle.std.proofs.Common.{length-append, map, take, refl, sym, ap, ◌∙◌, subst, arith}
-use Rattle.std.specs.Prelude.{if◌then◌else◌, ◌==◌, filter, filter_map, find, is_some, option_map, option_to_list, unwrap_or, zip}
-use Rattle.std.specs.List.{AllByRecursion, before_first, list_any}
-use Rattle.std.specs.Option.{option_map_or}
-use Rattle.std.specs.Str.{bytes_eq}
-use Rattle.std.specs.declared.alloc.Global.{Global}
-use Rattle.std.proofs.lemmas.Bool.Decides.{Decides-eqb}
+use Rattle.run_headline.proofs.Words.{◌≡◌, ℕ, ◌+◌, ◌≤◌, Bool, true, false, ◌||◌, not, cond, Option, Some, None, List, [], ◌∷◌, ◌++◌, length, map, take, refl}
+use Rattle.run_headline.proofs.Words.{sym, ap, ◌∙◌, subst, arith, if◌then◌else◌, ◌==◌, filter, filter_map, find, is_some, option_map, option_to_list}
+use Rattle.run_headline.proofs.Words.{unwrap_or, zip, AllByRecursion, list_any, option_map_or, bytes_eq, Global, Decides-eqb, position-Some, Filter, Packet}
+use Rattle.run_headline.proofs.Words.{has_twice, place_of, FunctionLaws, Semantics, takes, Answer, Command, Order, Move, Copy, Share, Msg, Note, unknown_in}
+use Rattle.run_headline.proofs.Words.{Choice, Network, IsRun, run, Config, Node, answers_of, is_begun, IsProper, commands, no_packet, order_numbered}
+use Rattle.run_headline.proofs.Words.{packet_numbered, packets, course_of, job_of, dones_in, done_where, node_ready, node_step, first_owner, owner, standby_at}
+use Rattle.run_headline.proofs.Words.{StandsBy, started_with, by_unit, all_fit, is_answered, is_done, is_covered, packets_of, IsAsNew, records_under}
+use Rattle.run_headline.proofs.Words.{IsCompleted, done_in, Setting, setting_of}
+use Rattle.std.proofs.Common.{append_assoc, length-append}
+use Rattle.std.specs.List.{before_first}
 use Rattle.std.proofs.lemmas.List.Elements.{recursion_from_All}
-use Rattle.std.proofs.lemmas.List.Quantifiers.{position-Some}
-use Rattle.flow_filter.specs.declared.filter.Filter.{Filter}
-use Rattle.flow_filter.specs.declared.packet.Packet.{Packet}
-use Rattle.flow_filter.specs.Name.{has_twice, place_of}
 use Rattle.nf_function.specs.declared.unit.Unit as units
-use Rattle.nf_function.specs.Records.{Laws as FunctionLaws}
-use Rattle.nf_function.specs.Semantics.{Semantics}
-use Rattle.nf_function.specs.Units.{takes}
-use Rattle.nf_msgs.specs.declared.answer.Answer.{Answer}
 use Rattle.nf_msgs.specs.declared.answer.Answer.TheVariants as answers
-use Rattle.nf_msgs.specs.declared.command.Command.{Command}
-use Rattle.nf_msgs.specs.declared.command.Order.{Order}
-use Rattle.nf_msgs.specs.declared.command.Order.TheVariants.{Move, Copy, Share}
-use Rattle.nf_msgs.specs.declared.msg.Msg.{Msg}
 use Rattle.nf_msgs.specs.declared.msg.Msg.TheVariants as msg
-use Rattle.nf_msgs.specs.declared.note.Note.{Note}
 use Rattle.nf_msgs.specs.declared.note.Note.TheVariants as note
-use Rattle.ctrl_node.specs.Controller.{unknown_in}
-use Rattle.actor_net.specs.declared.choice.Choice.{Choice}
-use Rattle.actor_net.specs.Network.{Network, IsRun, run}
 use Rattle.actor_net.proofs.RunLaws.{run_splits}
-use Rattle.net_world.specs.declared.config.Config.{Config}
-use Rattle.net_world.specs.declared.node.Node.{Node}
-use Rattle.net_world.specs.Commands.{answers_of, is_begun}
 use Rattle.net_world.specs.Fold as folds
-use Rattle.net_world.specs.Input.{IsProper, commands, no_packet, order_numbered, packet_numbered, packets}
-use Rattle.net_world.specs.Jobs.{course_of, job_of}
-use Rattle.net_world.specs.Log.{dones_in, done_where}
-use Rattle.net_world.specs.Nodes.{node_ready, node_step}
-use Rattle.net_world.specs.Places.{first_owner, owner}
-use Rattle.net_world.specs.Standby.{standby_at, StandsBy}
-use Rattle.net_world.specs.Start.{started_with}
 use Rattle.net_world.specs.Verdicts.{before_export, export_in}
 use Rattle.net_world.proofs.PickedLists.{before_first-cons}
-use Rattle.report_lines.specs.Lines.{by_unit}
-use Rattle.run_report.specs.proof_outlines.proofs.joined.StartJoined.{all_fit}
 use Rattle.run_report.specs.nf_net.specs.Copies.{IsCopied, UnitCopy}
 use Rattle.run_report.specs.nf_net.proofs.EveryRun.{every_run}
 use Rattle.run_report.specs.nf_net.proofs.FrontLemmas.{front_length}
 use Rattle.run_report.specs.nf_net.proofs.SettleCounts.{packets-append}
 use Rattle.run_report.specs.nf_net.proofs.StandbyFronts.{still_some}
-use Rattle.run_headline.specs.Causes.{is_answered, is_done}
-use Rattle.run_headline.specs.Headline.{is_covered, packets_of}
-use Rattle.run_headline.specs.Instances.{AreStandbys, HasBrought, IsAsNew, StaysAt, dones_of, records_under}
-use Rattle.run_headline.specs.Law.{IsCompleted, done_in, points_of}
+use Rattle.run_headline.specs.Instances.{AreStandbys, HasBrought, StaysAt, dones_of}
+use Rattle.run_headline.specs.Law.{points_of}
 use Rattle.run_headline.proofs.AnswerCauses.{began_if}
 use Rattle.run_headline.proofs.AnswerLines.{answer_to, answered_so}
 use Rattle.run_headline.proofs.FoundNumbers.{IsFound, all_found}
@@ -60,7 +32,6 @@ use Rattle.run_headline.proofs.InstanceLines.{done_unrefused, fronts, here, of, 
 use Rattle.run_headline.proofs.RecordsUnder.{under_name}
 use Rattle.run_headline.proofs.UnitOutputs.{IsThere, mine, part}
 use Rattle.run_headline.proofs.UnmovedUnits.{not_covered, owner_is}
-use Rattle.run_report.specs.proof_outlines.proofs.joined.Setting.{Setting, setting_of}
 
 -- The log before a note of what was given, and the lines of packets that were processed by then.
 module _ {X : Type 0} (p : X → Bool) where

@@ -1,29 +1,13 @@
 -- A unit that a plain move handed on was covered by a plain move that is answered that it is done.
-use Rattle.std.proofs.Common.{◌≡◌, ◌≢◌, ℕ, ◌≤◌, Bool, true, false, not, ◌&&◌, ◌||◌, Option, Some, None, List, [], ◌∷◌, map, refl, sym, ap, ◌∙◌, arith}
-use Rattle.std.specs.Prelude.{◌==◌}
-use Rattle.std.specs.List.{list_any}
-use Rattle.std.proofs.Math.Bool.{or-true}
-use Rattle.std.proofs.lemmas.Bool.{true≢false}
-use Rattle.std.proofs.lemmas.Bool.Decides.{nat_tests}
+use Rattle.run_headline.proofs.Words.{◌≡◌, ◌≢◌, ℕ, ◌≤◌, Bool, true, false, not, ◌&&◌, ◌||◌, Option, Some, None, List, [], ◌∷◌, map, refl, sym, ap, ◌∙◌, arith}
+use Rattle.run_headline.proofs.Words.{◌==◌, list_any, or-true, true≢false, nat_tests, takes, Semantics, Answer, Order, Move, Copy, Share, Msg, Note, Config}
+use Rattle.run_headline.proofs.Words.{Answers, commands, order_numbered, installs_in, answer_in, is_loose, owner_after_order, by_number, is_answered, is_done}
+use Rattle.run_headline.proofs.Words.{is_covered, moves, subject}
 use Rattle.nf_function.specs.declared.unit.Unit as units
-use Rattle.nf_function.specs.Units.{takes}
-use Rattle.nf_function.specs.Semantics.{Semantics}
-use Rattle.nf_msgs.specs.declared.answer.Answer.{Answer}
 use Rattle.nf_msgs.specs.declared.answer.Answer.TheVariants as answers
-use Rattle.nf_msgs.specs.declared.command.Order.{Order}
-use Rattle.nf_msgs.specs.declared.command.Order.TheVariants.{Move, Copy, Share}
-use Rattle.nf_msgs.specs.declared.msg.Msg.{Msg}
-use Rattle.nf_msgs.specs.declared.note.Note.{Note}
-use Rattle.net_world.specs.declared.config.Config.{Config}
-use Rattle.net_world.specs.Commands.{Answers, times_installed}
-use Rattle.net_world.specs.Input.{commands, order_numbered}
-use Rattle.net_world.specs.Log.{installs_in, answer_in}
-use Rattle.net_world.specs.Places.{is_loose, loose_after, hands_on_plain, owner_after_order}
+use Rattle.net_world.specs.Commands.{times_installed}
+use Rattle.net_world.specs.Places.{loose_after, hands_on_plain}
 use Rattle.net_world.proofs.PickedLists.{some_counted}
-use Rattle.report_lines.specs.Lines.{by_number}
-use Rattle.run_headline.specs.Causes.{is_answered, is_done}
-use Rattle.run_headline.specs.Headline.{is_covered, moves}
-use Rattle.run_headline.specs.Law.{subject}
 use Rattle.run_headline.proofs.AnswerLines.{answer_to, found_any, so_answered, some}
 
 -- a command that the switch installed

@@ -1,9 +1,6 @@
 -- Where the numbers of some things rise, each is found by its number.
-use Rattle.std.proofs.Common.{◌≡◌, ℕ, suc, ◌<◌, ◌≤◌, false, true, Some, List, [], ◌∷◌, map, refl, ◌∙◌, arith}
-use Rattle.std.specs.Prelude.{◌==◌, find}
-use Rattle.std.specs.List.{AllByRecursion}
-use Rattle.std.proofs.lemmas.Bool.Decides.{nat_tests}
-use Rattle.net_world.specs.Input.{IsRising}
+use Rattle.run_headline.proofs.Words.{◌≡◌, ℕ, suc, ◌<◌, ◌≤◌, false, true, Some, List, [], ◌∷◌, map, refl, ◌∙◌, arith, ◌==◌, find, AllByRecursion, nat_tests}
+use Rattle.run_headline.proofs.Words.{IsRising}
 
 -- numbers that rise from somewhere rise from below
 pub rising_from : (low least : ℕ) (ns : List ℕ) → low ≤ least → IsRising least ns → IsRising low ns

@@ -1,44 +1,19 @@
 -- The headline of every completed run.
-use Rattle.std.proofs.Common.{◌≡◌, ℕ, zero, suc, ◌+◌, ◌<◌, Bool, true, false, Option, Some, None, List, [], ◌∷◌, length, map, get_or, refl, sym, ap, ◌∙◌, arith}
-use Rattle.std.specs.Prelude.{if◌then◌else◌, filter_map, option_to_list, slice_get, zip, filter}
-use Rattle.std.specs.List.{count_by, flat_map, list_any, sum_by}
-use Rattle.std.specs.Str.{bytes_eq}
-use Rattle.std.specs.declared.alloc.Global.{Global}
+use Rattle.run_headline.proofs.Words.{◌≡◌, ℕ, zero, suc, ◌+◌, ◌<◌, Bool, true, false, Option, Some, None, List, [], ◌∷◌, length, map, get_or, refl, sym, ap}
+use Rattle.run_headline.proofs.Words.{◌∙◌, arith, if◌then◌else◌, filter_map, option_to_list, slice_get, zip, filter, count_by, flat_map, list_any, sum_by}
+use Rattle.run_headline.proofs.Words.{bytes_eq, Global, length-map, Packet, FunctionLaws, Semantics, kept_after, Msg, Note, instance_node, InstanceState}
+use Rattle.run_headline.proofs.Words.{Choice, Network, run, run_world, Config, Node, Instance, times, packet_numbered, packets, answer_in, node_ready}
+use Rattle.run_headline.proofs.Words.{node_step, numbered_times, live_at, standby_in, started_with, is_loose, NamedInstance, by_number, by_unit, named_records}
+use Rattle.run_headline.proofs.Words.{instance_under, named_instances, node_of, all_fit, count_at_start, run_beside, start_world, Headline, is_covered}
+use Rattle.run_headline.proofs.Words.{packets_of, record_after, records_of, Subject, IsCompleted, lines, subject, Setting, setting_of}
 use Rattle.std.specs.FinMap as finite
-use Rattle.std.proofs.lemmas.List.{length-map}
-use Rattle.flow_filter.specs.declared.packet.Packet.{Packet}
 use Rattle.nf_function.specs.declared.unit.Unit as units
-use Rattle.nf_function.specs.Records.{Laws as FunctionLaws}
-use Rattle.nf_function.specs.Semantics.{Semantics, kept_after}
-use Rattle.nf_msgs.specs.declared.msg.Msg.{Msg}
-use Rattle.nf_msgs.specs.declared.note.Note.{Note}
-use Rattle.nf_msgs.specs.Nodes.{instance_node}
-use Rattle.instance_worker.specs.declared.instance.Instance.{Instance as InstanceState}
-use Rattle.actor_net.specs.declared.choice.Choice.{Choice}
-use Rattle.actor_net.specs.Network.{Network, run}
-use Rattle.actor_net.proofs.RunInduction.{run_world}
-use Rattle.net_world.specs.declared.config.Config.{Config}
-use Rattle.net_world.specs.declared.node.Node.{Node}
-use Rattle.net_world.specs.declared.node.Node.TheVariants.{Switch, Controller, Instance}
+use Rattle.net_world.specs.declared.node.Node.TheVariants.{Switch, Controller}
 use Rattle.net_world.specs.Fold as folds
-use Rattle.net_world.specs.Fold.{times}
-use Rattle.net_world.specs.Input.{packet_numbered, packets}
-use Rattle.net_world.specs.Log.{answer_in}
-use Rattle.net_world.specs.Nodes.{node_ready, node_step}
-use Rattle.net_world.proofs.NumberCounts.{numbered_times}
-use Rattle.net_world.specs.Records.{live_at, live_in}
-use Rattle.net_world.specs.Standby.{standby_in}
-use Rattle.net_world.specs.Start.{started_with}
+use Rattle.net_world.specs.Records.{live_in}
 use Rattle.run_report.specs.nf_net.proofs.PacketCounts.{all_done}
-use Rattle.net_world.specs.Places.{is_loose}
-use Rattle.report_lines.specs.Lines.{NamedInstance, by_number, by_unit, named_records}
-use Rattle.run_report.specs.Lines.{instance_in, instance_under, named_instances}
-use Rattle.run_report.specs.proof_outlines.proofs.joined.Joined.{Nodes, node_of}
-use Rattle.run_report.specs.proof_outlines.proofs.joined.StartJoined.{all_fit, count_at_start}
-use Rattle.run_report.specs.proof_outlines.proofs.joined.RunsJoined.{run_beside, start_world}
-use Rattle.run_headline.specs.Headline.{Headline, is_covered, packets_of, record_after, records_of}
-use Rattle.run_headline.specs.Subject.{Subject}
-use Rattle.run_headline.specs.Law.{IsCompleted, lines, subject}
+use Rattle.run_report.specs.Lines.{instance_in}
+use Rattle.run_report.specs.proof_outlines.proofs.joined.Joined.{Nodes}
 use Rattle.run_headline.proofs.AnswerCauses.{answers_true}
 use Rattle.run_headline.proofs.CoveredUnits.{uncovered}
 use Rattle.run_headline.proofs.FoundNumbers.{all_found}
@@ -46,7 +21,6 @@ use Rattle.run_headline.proofs.LineNumbers.{any_own, dones_times, has_some, none
 use Rattle.run_headline.proofs.SummaryCounts.{counts_each, names_under}
 use Rattle.run_headline.proofs.UnitOutputs.{folds_same, mine, part, processed_all, tests_agree, unit_outputs}
 use Rattle.run_headline.proofs.UnitStates.{each_kept, kept_nth, kept_of, live_nth, live_of, none_live, nothing, one_live, sorted_kept, under_names}
-use Rattle.run_report.specs.proof_outlines.proofs.joined.Setting.{Setting, setting_of}
 
 -- The nodes of a world: a switch, a controller, and instances.
 module _ {F R : Type 0} where

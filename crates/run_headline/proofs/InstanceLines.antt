@@ -1,64 +1,27 @@
 -- What the report of every completed run says of its instances: their tallies, and the records that stand by, each by itself and with shares.
-use Rattle.std.proofs.Common.{◌≡◌, ◌≢◌, ℕ, zero, suc, ◌+◌, ◌<◌, ◌≤◌, Bool, true, false, not, Option, Some, None, List, [], ◌∷◌, ◌++◌, length, map, take, refl}
-use Rattle.std.proofs.Common.{sym, ap, ◌∙◌, subst, slice_index, arith}
-use Rattle.std.specs.Prelude.{if◌then◌else◌, ◌==◌, filter_map, find, is_some, option_map, option_to_list, slice_get, zip}
-use Rattle.std.specs.List.{AllByRecursion, list_any, take-map}
-use Rattle.std.specs.Str.{bytes_eq}
-use Rattle.std.specs.declared.alloc.Global.{Global}
-use Rattle.std.proofs.lemmas.Bool.{or_parts}
-use Rattle.std.proofs.lemmas.Bool.Decides.{Decides-eqb, nat_tests}
+use Rattle.run_headline.proofs.Words.{◌≡◌, ◌≢◌, ℕ, zero, suc, ◌+◌, ◌<◌, ◌≤◌, Bool, true, false, not, Option, Some, None, List, [], ◌∷◌, ◌++◌, length, map}
+use Rattle.run_headline.proofs.Words.{take, refl, sym, ap, ◌∙◌, subst, slice_index, arith, if◌then◌else◌, ◌==◌, filter_map, find, is_some, option_map}
+use Rattle.run_headline.proofs.Words.{option_to_list, slice_get, zip, AllByRecursion, list_any, bytes_eq, Global, or_parts, Decides-eqb, nat_tests}
+use Rattle.run_headline.proofs.Words.{position-Some, Filter, Packet, has_twice, place_of, FunctionLaws, Semantics, takes, same_unit-true, Answer, Command}
+use Rattle.run_headline.proofs.Words.{Order, Move, Copy, Share, Msg, Note, instance_node, InstanceState, Choice, Network, run, at, run_world, has, Config}
+use Rattle.run_headline.proofs.Words.{Node, is_begun, IsProper, commands, order_numbered, packets, dones_in, done_where, node_ready, node_step, is_home, owner}
+use Rattle.run_headline.proofs.Words.{live_at, job_of, standby_at, StandsBy, started_with, is_refusal, unit_fits, NamedInstance, NamedRecord, by_unit}
+use Rattle.run_headline.proofs.Words.{instance_under, named_instances, run_beside, start_world, count_at_start, given, is_answered, is_done, ReportLines}
+use Rattle.run_headline.proofs.Words.{is_covered, packets_of, record_after, Subject, IsAsNew, records_under, IsCompleted, lines, subject, Setting, setting_of}
+use Rattle.std.specs.List.{take-map}
 use Rattle.std.proofs.lemmas.List.{take_at}
-use Rattle.std.proofs.lemmas.List.Quantifiers.{position-Some}
-use Rattle.flow_filter.specs.declared.filter.Filter.{Filter}
-use Rattle.flow_filter.specs.declared.packet.Packet.{Packet}
-use Rattle.flow_filter.specs.Name.{has_twice, place_of}
 use Rattle.nf_function.specs.declared.unit.Unit as units
-use Rattle.nf_function.specs.Records.{Laws as FunctionLaws}
-use Rattle.nf_function.specs.Semantics.{Semantics}
-use Rattle.nf_function.specs.Units.{takes}
-use Rattle.record_table.proofs.UnitOrder.{same_unit-true}
-use Rattle.nf_msgs.specs.declared.answer.Answer.{Answer}
 use Rattle.nf_msgs.specs.declared.answer.Answer.TheVariants as answers
-use Rattle.nf_msgs.specs.declared.command.Command.{Command}
-use Rattle.nf_msgs.specs.declared.command.Order.{Order}
-use Rattle.nf_msgs.specs.declared.command.Order.TheVariants.{Move, Copy, Share}
-use Rattle.nf_msgs.specs.declared.msg.Msg.{Msg}
-use Rattle.nf_msgs.specs.declared.note.Note.{Note}
-use Rattle.nf_msgs.specs.Nodes.{instance_node}
-use Rattle.instance_worker.specs.declared.instance.Instance.{Instance as InstanceState}
-use Rattle.actor_net.specs.declared.choice.Choice.{Choice}
-use Rattle.actor_net.specs.Network.{Network, run}
 use Rattle.actor_net.proofs.CompleteWorlds.{done_waiting}
-use Rattle.actor_net.proofs.EnabledChoices.{at}
-use Rattle.actor_net.proofs.RunInduction.{run_world}
-use Rattle.run_report.specs.proof_machines.proofs.share.Share.{has}
-use Rattle.net_world.specs.declared.config.Config.{Config}
-use Rattle.net_world.specs.declared.node.Node.{Node}
-use Rattle.net_world.specs.Commands.{is_begun}
 use Rattle.net_world.specs.Fold as folds
-use Rattle.net_world.specs.Input.{IsProper, commands, order_numbered, packets}
-use Rattle.net_world.specs.Log.{Done, dones_in, done_where}
-use Rattle.net_world.specs.Nodes.{node_ended, node_ready, node_step}
-use Rattle.net_world.specs.Places.{is_at, is_home, owner, unit_numbered}
-use Rattle.net_world.specs.Records.{live_at}
-use Rattle.net_world.specs.Jobs.{job_of}
-use Rattle.net_world.specs.Standby.{standby_at, StandsBy}
-use Rattle.net_world.specs.Start.{started_with}
-use Rattle.net_world.specs.Verdicts.{is_refusal}
-use Rattle.run_report.specs.proof_outlines.proofs.outline.FiltersApart.{unit_fits}
-use Rattle.report_lines.specs.Lines.{NamedInstance, NamedRecord, by_unit}
-use Rattle.run_report.specs.Lines.{instance_under, named_instances}
+use Rattle.net_world.specs.Log.{Done}
+use Rattle.net_world.specs.Nodes.{node_ended}
+use Rattle.net_world.specs.Places.{is_at, unit_numbered}
 use Rattle.run_report.specs.proof_outlines.proofs.joined.Joined.{shown}
-use Rattle.run_report.specs.proof_outlines.proofs.joined.RunsJoined.{run_beside, start_world}
 use Rattle.run_report.specs.proof_outlines.proofs.joined.ShareBegins.{FirstKnown, first_known, places_apart}
-use Rattle.run_report.specs.proof_outlines.proofs.joined.StartJoined.{count_at_start, given}
 use Rattle.run_report.specs.nf_net.proofs.answers.CommandPromises.{run_busy}
 use Rattle.run_report.specs.nf_net.proofs.NumberedUnits.{units_fit}
-use Rattle.run_headline.specs.Causes.{is_answered, is_done}
-use Rattle.run_headline.specs.Headline.{ReportLines, is_covered, packets_of, record_after}
-use Rattle.run_headline.specs.Subject.{Subject}
-use Rattle.run_headline.specs.Instances.{AreTallies, IsAsNew, IsShared, records_under}
-use Rattle.run_headline.specs.Law.{IsCompleted, lines, subject}
+use Rattle.run_headline.specs.Instances.{AreTallies, IsShared}
 use Rattle.run_headline.proofs.AnswerCauses.{began_if}
 use Rattle.run_headline.proofs.AnswerLines.{answer_to, answered_so}
 use Rattle.run_headline.proofs.CoveredUnits.{uncovered}
@@ -71,7 +34,6 @@ use Rattle.run_headline.proofs.SortedParts.{all_filter}
 use Rattle.run_headline.proofs.TallyLines.{has_counts}
 use Rattle.run_headline.proofs.UnitOutputs.{IsThere, folds_numbers, part, processed_all, those_numbers}
 use Rattle.run_headline.proofs.UnitStates.{kept_nth}
-use Rattle.run_report.specs.proof_outlines.proofs.joined.Setting.{Setting, setting_of}
 
 -- The first of a list.
 take_get : (n i : ℕ) (xs : List ℕ) → i < n → i < length xs → slice_get (take n xs) i ≡ Some (slice_index xs i)

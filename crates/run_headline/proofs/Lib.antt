@@ -1,3 +1,4 @@
+pub mod Words
 pub mod SortedParts
 pub mod FoundNumbers
 pub mod LineNumbers

@@ -1,15 +1,9 @@
 -- The lines of packets by their numbers: how often a number stands in them, what is printed of them, and whether a unit has a packet.
-use Rattle.std.proofs.Common.{◌≡◌, ℕ, Bool, true, false, ◌||◌, cond, Option, Some, None, List, [], ◌∷◌, ◌++◌, length, map, refl, sym, ap, ◌∙◌, subst, arith}
-use Rattle.std.specs.Prelude.{◌==◌, if◌then◌else◌, codes, filter, filter_map, fold, option_to_list}
-use Rattle.std.specs.List.{AllByRecursion, flat_map, list_any}
-use Rattle.flow_filter.specs.declared.packet.Packet.{Packet}
-use Rattle.nf_msgs.specs.declared.note.Note.{Note}
+use Rattle.run_headline.proofs.Words.{◌≡◌, ℕ, Bool, true, false, ◌||◌, cond, Option, Some, None, List, [], ◌∷◌, ◌++◌, length, map, refl, sym, ap, ◌∙◌, subst}
+use Rattle.run_headline.proofs.Words.{arith, ◌==◌, if◌then◌else◌, codes, filter, filter_map, fold, option_to_list, AllByRecursion, flat_map, list_any, Packet}
+use Rattle.run_headline.proofs.Words.{Note, times, dones_in, none_in, numbered_times, done_lines, named_line, done_in}
 use Rattle.nf_msgs.specs.declared.note.Note.TheVariants as note
-use Rattle.net_world.specs.Fold.{times}
-use Rattle.net_world.specs.Log.{dones_in}
-use Rattle.net_world.proofs.NumberCounts.{none_in, numbered_times}
-use Rattle.report_lines.specs.Lines.{done_line, done_lines, named_line}
-use Rattle.run_headline.specs.Law.{done_in}
+use Rattle.report_lines.specs.Lines.{done_line}
 
 -- What is printed of packets has the numbers of those that were processed.
 done_numbers : (log : List Note) → map (λ d. d.0) (filter_map done_in log) ≡ map (λ d. d.number) (dones_in log)

@@ -1,27 +1,23 @@
 -- A step of an instance that takes no tally and gives none adds to its own count in its tally what it notes as processed, and changes no other count.
-use Rattle.std.proofs.Common.{◌≡◌, ℕ, zero, suc, ◌+◌, ◌-◌, ◌^◌, ◌<◌, Bool, true, false, ◌||◌, Option, Some, None, List, [], ◌∷◌, ◌++◌, length, map, slice_index}
-use Rattle.std.proofs.Common.{refl, sym, ap, ◌∙◌, subst, arith}
-use Rattle.std.specs.Prelude.{◌==◌, filter, filter_map, if◌then◌else◌, min, slice_set}
+use Rattle.run_headline.proofs.Words.{◌≡◌, ℕ, zero, suc, ◌+◌, ◌-◌, ◌<◌, Bool, true, false, ◌||◌, Option, Some, None, List, [], ◌∷◌, ◌++◌, length, map}
+use Rattle.run_headline.proofs.Words.{slice_index, refl, sym, ap, ◌∙◌, subst, arith, ◌==◌, filter, filter_map, if◌then◌else◌, min, Decides-eqb, nat_tests}
+use Rattle.run_headline.proofs.Words.{Chunk, Semantics, unit_at, FullCell, Msg, Note, Step, instance_step, done_in}
+use Rattle.std.proofs.Common.{◌^◌}
+use Rattle.std.specs.Prelude.{slice_set}
 use Rattle.std.proofs.lemmas.List.{get_or-set_other, get_or-set_same, length-set}
-use Rattle.std.proofs.lemmas.Bool.Decides.{Decides-eqb, nat_tests}
-use Rattle.nf_function.specs.declared.chunk.Chunk.{Chunk}
 use Rattle.nf_function.specs.declared.unit.Unit as units
-use Rattle.nf_function.specs.Semantics.{Semantics, count, unit_at}
+use Rattle.nf_function.specs.Semantics.{count}
 use Rattle.event_filter.specs.declared.mark.Mark.{Mark}
 use Rattle.event_filter.specs.declared.mark.Mark.TheVariants as mark
-use Rattle.packet_pool.specs.Pool.{FullCell}
 use Rattle.nf_msgs.specs.declared.msg.Piece.{Piece}
-use Rattle.nf_msgs.specs.declared.msg.Msg.{Msg}
 use Rattle.nf_msgs.specs.declared.msg.Msg.TheVariants as msg
-use Rattle.nf_msgs.specs.declared.note.Note.{Note}
 use Rattle.nf_msgs.specs.declared.note.Note.TheVariants as note
 use Rattle.instance_worker.specs.declared.instance.Instance.{Instance}
 use Rattle.instance_worker.specs.Pieces.{pieces}
-use Rattle.instance_worker.specs.Instance.{Step, to_controller, chunk_told, share_message, still, and_then, selected_chunks, process_step, instance_step}
+use Rattle.instance_worker.specs.Instance.{to_controller, chunk_told, share_message, still, and_then, selected_chunks, process_step}
 use Rattle.run_report.specs.proof_machines.proofs.unit.Labels.{Each, each-append}
 use Rattle.run_report.specs.proof_outlines.proofs.joined.PlaceNotes.{AreUnprocessed}
 use Rattle.run_report.specs.proof_outlines.proofs.outline.InstanceWays.{instance_fits}
-use Rattle.run_headline.specs.Law.{done_in}
 
 -- how many packets an instance has processed, by the notes
 abbrev pub done_at : ℕ → List Note → ℕ

@@ -1,29 +1,14 @@
 -- The records of a unit under a name, among those of all instances sorted by their units: where no two names are alike, the one of the instance
 -- with the name.
-use Rattle.std.proofs.Common.{◌≡◌, ℕ, zero, suc, ◌<◌, ◌≤◌, Bool, true, false, ◌&&◌, cond, Option, Some, None, List, [], ◌∷◌, ◌++◌, length, map, get_or, refl}
-use Rattle.std.proofs.Common.{sym, ap, ◌∙◌, subst, append-nil, arith}
-use Rattle.std.specs.Prelude.{T, filter, option_to_list, zip}
-use Rattle.std.specs.List.{AllByRecursion, flat_map, list_any}
-use Rattle.std.specs.Ordering.{is_lt}
-use Rattle.std.specs.Str.{bytes_eq}
+use Rattle.run_headline.proofs.Words.{◌≡◌, ℕ, zero, suc, ◌<◌, ◌≤◌, Bool, true, false, ◌&&◌, cond, Option, Some, None, List, [], ◌∷◌, ◌++◌, length, map, get_or}
+use Rattle.run_headline.proofs.Words.{refl, sym, ap, ◌∙◌, subst, append-nil, arith, T, filter, option_to_list, zip, AllByRecursion, flat_map, list_any, is_lt}
+use Rattle.run_headline.proofs.Words.{bytes_eq, is_sorted, entries_sorted, below_all, and_yes, or_parts, true≢false, length-map, and-false, has_twice}
+use Rattle.run_headline.proofs.Words.{unit_cmp, units_total, part, same_unit, same_unit-true, same_unit_equiv, InstanceState, NamedInstance, NamedRecord}
+use Rattle.run_headline.proofs.Words.{by_unit, named_records, instance_under, records_under}
 use Rattle.std.specs.FinMap as finite
-use Rattle.std.specs.FinMap.{is_sorted, entries_sorted}
-use Rattle.std.specs.FinMap.Entries.{below_all, find}
-use Rattle.std.proofs.Math.Facts.{and_yes}
-use Rattle.std.proofs.lemmas.Bool.{or_parts, true≢false}
-use Rattle.std.proofs.lemmas.List.{length-map}
+use Rattle.std.specs.FinMap.Entries.{find}
 use Rattle.std.proofs.lemmas.Slice.Eq.{bytes_eq-Decides}
-use Rattle.std.proofs.Math.Bool.{and-false}
-use Rattle.flow_filter.specs.Name.{has_twice}
 use Rattle.nf_function.specs.declared.unit.Unit as units
-use Rattle.nf_function.specs.Units.{unit_cmp}
-use Rattle.nf_function.specs.UnitOrder.{units_total}
-use Rattle.record_table.specs.Table.{part, same_unit}
-use Rattle.record_table.proofs.UnitOrder.{same_unit-true, same_unit_equiv}
-use Rattle.instance_worker.specs.declared.instance.Instance.{Instance as InstanceState}
-use Rattle.report_lines.specs.Lines.{NamedInstance, NamedRecord, by_unit, named_records}
-use Rattle.run_report.specs.Lines.{instance_under}
-use Rattle.run_headline.specs.Instances.{records_under}
 use Rattle.run_headline.proofs.SortedParts.{all_sorted, one_stays}
 use Rattle.run_headline.proofs.UnitLines.{no_less}
 use Rattle.run_headline.proofs.UnitStates.{found_kept, kept_nth, kept_of}

@@ -1,24 +1,11 @@
 -- The text of a report has the lines of its headline.
-use Rattle.std.proofs.Common.{◌≡◌, ℕ, Bool, true, false, List, ◌++◌, length, sym, ap, ◌∙◌}
-use Rattle.std.specs.Prelude.{codes, filter_map, if◌then◌else◌}
-use Rattle.std.specs.List.{flat_map}
-use Rattle.std.specs.declared.alloc.Global.{Global}
-use Rattle.std.proofs.lemmas.List.{append_assoc}
-use Rattle.nf_function.specs.Records.{Laws as FunctionLaws}
-use Rattle.nf_function.specs.Semantics.{Semantics}
-use Rattle.nf_msgs.specs.declared.msg.Msg.{Msg}
-use Rattle.nf_msgs.specs.declared.note.Note.{Note}
-use Rattle.actor_net.specs.declared.choice.Choice.{Choice}
-use Rattle.actor_net.specs.Network.{Network, run}
-use Rattle.net_world.specs.declared.config.Config.{Config}
-use Rattle.net_world.specs.declared.node.Node.{Node}
-use Rattle.net_world.specs.Nodes.{node_step}
-use Rattle.net_world.specs.Start.{started_with}
-use Rattle.report_lines.specs.Lines.{NamedInstance, by_unit, done_lines, named_line, out_lines, standby_lines, state_lines, tail_lines}
-use Rattle.report_lines.specs.declared.heads.Head.{Head}
-use Rattle.run_report.specs.Lines.{answer_lines, head_lines, live_line, named_instances, packet_lines, record_lines, report_text, summary_lines, whole_lines}
+use Rattle.run_headline.proofs.Words.{◌≡◌, ℕ, Bool, true, false, List, ◌++◌, length, sym, ap, ◌∙◌, codes, filter_map, if◌then◌else◌, flat_map, Global}
+use Rattle.run_headline.proofs.Words.{append_assoc, FunctionLaws, Semantics, Msg, Note, Choice, Network, run, Config, Node, node_step, started_with}
+use Rattle.run_headline.proofs.Words.{NamedInstance, by_unit, done_lines, named_line, out_lines, standby_lines, state_lines, tail_lines, Head, named_instances}
+use Rattle.run_headline.proofs.Words.{IsCompleted, done_in, lines, subject}
+use Rattle.run_report.specs.Lines.{answer_lines, head_lines, live_line, packet_lines, record_lines, report_text, summary_lines, whole_lines}
 use Rattle.run_headline.specs.Text.{HasHeadline, lines_text}
-use Rattle.run_headline.specs.Law.{HeadlineLaw, IsCompleted, done_in, lines, subject}
+use Rattle.run_headline.specs.Law.{HeadlineLaw}
 use Rattle.run_headline.proofs.HeadlineRuns.{headline, lives, named}
 use Rattle.run_headline.proofs.CopiedStandbys.{are_standbys}
 use Rattle.run_headline.proofs.InstanceLines.{tallies}

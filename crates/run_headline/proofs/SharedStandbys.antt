@@ -1,22 +1,16 @@
 -- Where no message is left, each member of a share but its home has standing by what is kept of each of the share's units after all that was processed.
-use Rattle.std.proofs.Common.{◌≡◌, ℕ, ◌+◌, ◌<◌, true, false, Some, None, List, [], length, map, sym, ap, ◌∙◌, arith}
-use Rattle.std.specs.Prelude.{◌&&◌, ◌==◌, slice_get, slice_index}
+use Rattle.run_headline.proofs.Words.{◌≡◌, ℕ, ◌+◌, ◌<◌, true, false, Some, None, List, [], length, map, sym, ap, ◌∙◌, arith, ◌==◌, slice_get, Decides-eqb}
+use Rattle.run_headline.proofs.Words.{Filter, place_of, takes, Msg, Note, instance_node, Network, has, Node, is_begun, order_numbered, is_home, owner}
+use Rattle.run_headline.proofs.Words.{standby_in, unit_fits, Given, Joined, given, Busy, Setting}
+use Rattle.std.specs.Prelude.{◌&&◌, slice_index}
 use Rattle.std.specs.List.{filter_map}
 use Rattle.std.specs.FinMap as finite
-use Rattle.std.proofs.lemmas.Bool.Decides.{Decides-eqb}
-use Rattle.flow_filter.specs.declared.filter.Filter.{Filter}
-use Rattle.flow_filter.specs.Name.{place_of}
 use Rattle.nf_function.specs.declared.unit.Unit as units
-use Rattle.nf_function.specs.Units.{takes}
 use Rattle.nf_msgs.specs.declared.command.Order.TheVariants as order
-use Rattle.nf_msgs.specs.declared.msg.Msg.{Msg}
-use Rattle.nf_msgs.specs.declared.note.Note.{Note}
-use Rattle.nf_msgs.specs.Nodes.{instance_node}
 use Rattle.copy_share.specs.Share.{home}
 use Rattle.ctrl_node.specs.declared.operation.Operation.TheVariants.{Share}
-use Rattle.actor_net.specs.Network.{Network}
 use Rattle.run_report.specs.proof_machines.proofs.share.Records.{own_is}
-use Rattle.run_report.specs.proof_machines.proofs.share.Share.{UnitShare, has, runs}
+use Rattle.run_report.specs.proof_machines.proofs.share.Share.{UnitShare, runs}
 use Rattle.run_report.specs.proof_machines.proofs.net.Elsewhere.{where_two}
 use Rattle.run_report.specs.proof_machines.proofs.net.Net.{IsSys}
 use Rattle.run_report.specs.proof_machines.proofs.net.Readings as readings
@@ -30,27 +24,19 @@ use Rattle.run_report.specs.proof_machines.proofs.net.UnderStarts.{seeing}
 use Rattle.run_report.specs.proof_machines.proofs.net.Untaken.{ElsewhereHome}
 use Rattle.run_report.specs.proof_machines.proofs.whole.Readings.{ItsShare, fold_done, its_share}
 use Rattle.run_report.specs.proof_machines.proofs.whole.WhereAll.{WhereAll, Apart_from_shares, Under_share}
-use Rattle.net_world.specs.declared.node.Node.{Node}
-use Rattle.net_world.specs.Commands.{is_begun}
 use Rattle.net_world.specs.Fold.{fold, processed_of}
-use Rattle.net_world.specs.Input.{order_numbered}
-use Rattle.net_world.specs.Places.{is_home, owner}
-use Rattle.net_world.specs.Standby.{standby_in}
-use Rattle.run_report.specs.proof_outlines.proofs.outline.FiltersApart.{takes_same, takes_whole, unit_fits}
+use Rattle.run_report.specs.proof_outlines.proofs.outline.FiltersApart.{takes_same, takes_whole}
 use Rattle.run_report.specs.proof_outlines.proofs.outline.Outline.{is_sys}
 use Rattle.run_report.specs.proof_outlines.proofs.whole.OpenShares.{Both, RealShare, both, real_share}
-use Rattle.run_report.specs.proof_outlines.proofs.joined.Given.{Given, place}
-use Rattle.run_report.specs.proof_outlines.proofs.joined.Joined.{S, A, Joined, came_by}
+use Rattle.run_report.specs.proof_outlines.proofs.joined.Given.{place}
+use Rattle.run_report.specs.proof_outlines.proofs.joined.Joined.{S, A, came_by}
 use Rattle.run_report.specs.proof_outlines.proofs.joined.OperationsApart.{AllApart}
 use Rattle.run_report.specs.proof_outlines.proofs.joined.RunsJoined.{done_same}
-use Rattle.run_report.specs.proof_outlines.proofs.joined.StartJoined.{given}
-use Rattle.run_report.specs.nf_net.proofs.answers.BusyRuns.{Busy}
 use Rattle.run_report.specs.nf_net.proofs.paths.PathSeats.{found_instance}
 use Rattle.run_report.specs.nf_net.proofs.paths.SharedOwners.{members_few}
 use Rattle.run_report.specs.nf_net.proofs.FoldLemmas.{fold_is}
 use Rattle.run_report.specs.nf_net.proofs.MemberLemmas.{home_first}
 use Rattle.run_report.specs.nf_net.proofs.UnitShares.{IsOpenShare, home_is, number_is, open_begun, owner_goes}
-use Rattle.run_report.specs.proof_outlines.proofs.joined.Setting.{Setting}
 
 -- A unit, and a share that began and takes it, whose home owns it.
 module _ {F R : Type 0} (setting : Setting F R) (n : ℕ) (count_is : n ≡ length setting.config.names + 2) (w : Network (Node F R) Msg Note)

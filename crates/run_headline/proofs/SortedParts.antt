@@ -1,17 +1,12 @@
 -- A part of a sorted list: what stood in order stands as it was, and what stood alone; and what all of it have.
-use Rattle.std.proofs.Common.{◌≡◌, ℕ, suc, ◌<◌, ◌≤◌, Bool, true, false, cond, List, [], ◌∷◌, length, map, refl, sym, ap, ◌∙◌, arith}
-use Rattle.std.specs.Prelude.{nat_le, filter}
-use Rattle.std.specs.Ordering.{is_lt, nat_cmp}
-use Rattle.std.specs.declared.cmp.Ordering.{Ordering}
-use Rattle.std.specs.List.{AllByRecursion}
+use Rattle.run_headline.proofs.Words.{◌≡◌, ℕ, suc, ◌<◌, ◌≤◌, Bool, true, false, cond, List, [], ◌∷◌, length, map, refl, sym, ap, ◌∙◌, arith, filter, is_lt}
+use Rattle.run_headline.proofs.Words.{nat_cmp, Ordering, AllByRecursion, IsRising, put_in, sorted_by, IsUp, less, those_filter}
+use Rattle.std.specs.Prelude.{nat_le}
 use Rattle.std.specs.List.Sorted.{ties}
 use Rattle.std.specs.Cmp.{IsTotalOrder, IsStrictWeakOrder}
 use Rattle.std.proofs.lemmas.List.Sorted.{ranks_by}
-use Rattle.net_world.specs.Input.{IsRising}
-use Rattle.report_lines.specs.Sorting.{put_in, sorted_by}
-use Rattle.report_lines.proofs.SortLemmas.{IsUp, less, one_sort, up_sort, same_sort}
+use Rattle.report_lines.proofs.SortLemmas.{one_sort, up_sort, same_sort}
 use Rattle.report_lines.proofs.SortedAlready.{not_less}
-use Rattle.standby_failover.proofs.ListLemmas.{those_filter}
 
 module _ {X : Type 0} where
   pub all_filter : (P : X → Type 0) (q : X → Bool) (xs : List X) → AllByRecursion P xs → AllByRecursion P (filter q xs)

@@ -1,17 +1,10 @@
 -- The counts of a summary are those of the records under each name.
-use Rattle.std.proofs.Common.{◌≡◌, ℕ, suc, ◌+◌, Bool, true, false, cond, List, [], ◌∷◌, ◌++◌, length, map, refl, sym, ap, ◌∙◌, arith}
-use Rattle.std.specs.Prelude.{if◌then◌else◌, zip}
-use Rattle.std.specs.List.{count_by, flat_map, sum_by}
-use Rattle.std.specs.Ordering.{is_lt}
-use Rattle.std.specs.Str.{bytes_eq}
+use Rattle.run_headline.proofs.Words.{◌≡◌, ℕ, suc, ◌+◌, Bool, true, false, cond, List, [], ◌∷◌, ◌++◌, length, map, refl, sym, ap, ◌∙◌, arith, if◌then◌else◌}
+use Rattle.run_headline.proofs.Words.{zip, count_by, flat_map, sum_by, is_lt, bytes_eq, unit_cmp, InstanceState, NamedInstance, NamedRecord, by_unit}
+use Rattle.run_headline.proofs.Words.{named_records, put_in, sorted_by, instance_under}
 use Rattle.std.specs.FinMap as finite
 use Rattle.std.proofs.lemmas.List.Sums.{sum_by-append, sum_by-cons}
 use Rattle.nf_function.specs.declared.unit.Unit as units
-use Rattle.nf_function.specs.Units.{unit_cmp}
-use Rattle.instance_worker.specs.declared.instance.Instance.{Instance as InstanceState}
-use Rattle.report_lines.specs.Lines.{NamedInstance, NamedRecord, by_unit, named_records}
-use Rattle.report_lines.specs.Sorting.{put_in, sorted_by}
-use Rattle.run_report.specs.Lines.{instance_under}
 
 module _ {R : Type 0} where
   pub names_under : {F : Type 0} (names : List (List ℕ)) (is : List (InstanceState F R)) → length is ≡ length names

@@ -1,28 +1,12 @@
 -- At the end of a run the own count of an instance in its tally is the number of lines of packets that it has processed, and it counts no more of others.
-use Rattle.std.proofs.Common.{◌≡◌, ℕ, suc, ◌+◌, ◌<◌, ◌≤◌, Bool, true, false, cond, List, [], ◌∷◌, length, get_or, slice_index, refl, ap, ◌∙◌, subst, arith}
-use Rattle.std.specs.Prelude.{◌==◌, filter, filter_map, min}
-use Rattle.std.specs.declared.alloc.Global.{Global}
-use Rattle.std.proofs.lemmas.List.{length-map}
+use Rattle.run_headline.proofs.Words.{◌≡◌, ℕ, suc, ◌+◌, ◌<◌, ◌≤◌, Bool, true, false, cond, List, [], ◌∷◌, length, get_or, slice_index, refl, ap, ◌∙◌, subst}
+use Rattle.run_headline.proofs.Words.{arith, ◌==◌, filter, filter_map, min, Global, length-map, FunctionLaws, Semantics, Msg, Note, InstanceState, Choice}
+use Rattle.run_headline.proofs.Words.{Network, run, Config, Node, Instance, packets, dones_in, node_step, started_with, IsCompleted, done_in, Setting}
+use Rattle.run_headline.proofs.Words.{setting_of}
 use Rattle.std.proofs.lemmas.List.Sums.{count_by-le-length, length-filter}
-use Rattle.nf_function.specs.Records.{Laws as FunctionLaws}
-use Rattle.nf_function.specs.Semantics.{Semantics}
-use Rattle.nf_msgs.specs.declared.msg.Msg.{Msg}
-use Rattle.nf_msgs.specs.declared.note.Note.{Note}
 use Rattle.nf_msgs.specs.declared.note.Note.TheVariants as note
-use Rattle.instance_worker.specs.declared.instance.Instance.{Instance as InstanceState}
-use Rattle.actor_net.specs.declared.choice.Choice.{Choice}
-use Rattle.actor_net.specs.Network.{Network, run}
-use Rattle.net_world.specs.declared.config.Config.{Config}
-use Rattle.net_world.specs.declared.node.Node.{Node}
-use Rattle.net_world.specs.declared.node.Node.TheVariants.{Instance}
-use Rattle.net_world.specs.Input.{packets}
-use Rattle.net_world.specs.Log.{dones_in}
-use Rattle.net_world.specs.Nodes.{node_step}
-use Rattle.net_world.specs.Start.{started_with}
-use Rattle.run_headline.specs.Law.{IsCompleted, done_in}
 use Rattle.run_headline.proofs.OwnTallies.{done_at, most}
 use Rattle.run_headline.proofs.TallyRuns.{AtNode, IsTallied, run_tallied}
-use Rattle.run_report.specs.proof_outlines.proofs.joined.Setting.{Setting, setting_of}
 
 -- there are as many lines as packets that were processed
 lines_done : (log : List Note) → length (filter_map done_in log) ≡ length (dones_in log)

@@ -1,51 +1,32 @@
 -- In every run the own count of an instance in its tally is the number of packets that it has processed, and no tally counts more of another.
-use Rattle.std.proofs.Common.{◌≡◌, ◌≢◌, ℕ, zero, suc, ◌+◌, ◌<◌, ◌≤◌, true, false, Option, Some, None, Ok, List, [], ◌∷◌, ◌++◌, length, get_or, replicate}
-use Rattle.std.proofs.Common.{slice_index, refl, sym, ap, ◌∙◌, subst, arith}
-use Rattle.std.specs.Prelude.{◌==◌, min}
+use Rattle.run_headline.proofs.Words.{◌≡◌, ◌≢◌, ℕ, zero, suc, ◌+◌, ◌<◌, ◌≤◌, true, false, Option, Some, None, List, [], ◌∷◌, ◌++◌, length, get_or, slice_index}
+use Rattle.run_headline.proofs.Words.{refl, sym, ap, ◌∙◌, subst, arith, ◌==◌, min, nat_tests, Chunk, FunctionLaws, Semantics, Msg, Note, instance_node}
+use Rattle.run_headline.proofs.Words.{Operation, ControllerState, controller_step, switch_step, InstanceState, Step, instance_step, Choice, Network, Stepped}
+use Rattle.run_headline.proofs.Words.{world_next, at, Taking, run_induction, Takes, taken_outcome, Each, Node, Instance, node_step, node_ready, Given, Joined}
+use Rattle.run_headline.proofs.Words.{Label, node_of, Runs, runs_at_start, runs_next, start_world, all_fit, count_at_start, given, Setting, start, IsCourse}
+use Rattle.run_headline.proofs.Words.{world_of}
+use Rattle.std.proofs.Common.{Ok, replicate}
 use Rattle.std.specs.FinMap as finite
 use Rattle.std.proofs.lemmas.List.{length-replicate}
-use Rattle.std.proofs.lemmas.Bool.Decides.{nat_tests}
-use Rattle.nf_function.specs.declared.chunk.Chunk.{Chunk}
-use Rattle.nf_function.specs.Records.{Laws as FunctionLaws}
-use Rattle.nf_function.specs.Semantics.{Semantics}
 use Rattle.nf_function.proofs.MergeLemmas.{merge_laws}
 use Rattle.state_chunk.specs.Format.{IsTally, tally_chunk}
 use Rattle.state_chunk.specs.Reading.{tally_read}
 use Rattle.state_chunk.proofs.TallyLemmas.{tally_read-tally_bytes}
-use Rattle.nf_msgs.specs.declared.msg.Msg.{Msg}
 use Rattle.nf_msgs.specs.declared.msg.Msg.TheVariants as msg
-use Rattle.nf_msgs.specs.declared.note.Note.{Note}
-use Rattle.nf_msgs.specs.Nodes.{instance_node}
-use Rattle.ctrl_node.specs.declared.operation.Operation.{Operation}
 use Rattle.ctrl_node.specs.declared.operation.Operation.TheVariants.{Move, Copy, Share}
-use Rattle.ctrl_node.specs.Controller.{ControllerState, controller_step}
-use Rattle.switch_node.specs.Switch.{switch_step}
-use Rattle.instance_worker.specs.declared.instance.Instance.{Instance as InstanceState}
-use Rattle.instance_worker.specs.Instance.{Step, instance_step, on_put_all, tally_put}
-use Rattle.actor_net.specs.declared.choice.Choice.{Choice}
-use Rattle.actor_net.specs.Network.{Network, Stepped, world_next}
-use Rattle.actor_net.proofs.EnabledChoices.{at}
+use Rattle.instance_worker.specs.Instance.{on_put_all, tally_put}
 use Rattle.actor_net.proofs.OpeningWorlds.{opening_on_links}
-use Rattle.actor_net.proofs.RunInduction.{Taking, run_induction}
-use Rattle.actor_net.proofs.StepOutcome.{Takes, taken_outcome}
-use Rattle.actor_net.proofs.WeightLaws.{Each, OnLinks, EachSent, on_links_after}
+use Rattle.actor_net.proofs.WeightLaws.{OnLinks, EachSent, on_links_after}
 use Rattle.run_report.specs.proof_machines.proofs.unit.Labels.{each_map}
-use Rattle.net_world.specs.declared.node.Node.{Node}
-use Rattle.net_world.specs.declared.node.Node.TheVariants.{Instance}
-use Rattle.net_world.specs.Nodes.{node_step, node_ready}
 use Rattle.net_world.specs.Start.{first_instance, first_nodes}
 use Rattle.run_report.specs.proof_outlines.proofs.joined.BesideRuns.{its_label, its_takes}
 use Rattle.run_report.specs.proof_outlines.proofs.joined.CopyAnswers.{is_uncopied}
 use Rattle.run_report.specs.proof_outlines.proofs.joined.CopySends.{BeginSo, TurnSo, controller_sent}
-use Rattle.run_report.specs.proof_outlines.proofs.joined.Given.{Given}
-use Rattle.run_report.specs.proof_outlines.proofs.joined.Joined.{Joined, Label, node_of}
 use Rattle.run_report.specs.proof_outlines.proofs.joined.PlaceNotes.{controller_uninstalled, switch_unprocessed, uninstalled_unprocessed}
-use Rattle.run_report.specs.proof_outlines.proofs.joined.RunsJoined.{Runs, runs_at_start, runs_next, start_world}
-use Rattle.run_report.specs.proof_outlines.proofs.joined.StartJoined.{all_fit, count_at_start, given, instance_found}
+use Rattle.run_report.specs.proof_outlines.proofs.joined.StartJoined.{instance_found}
 use Rattle.run_report.specs.nf_net.proofs.ends.TallySteps.{IsTallyChunk, reads}
 use Rattle.run_report.specs.nf_net.proofs.ends.TokenRuns.{HasEnough, TallyLabel, enough_at_start, enough_next}
 use Rattle.run_headline.proofs.OwnTallies.{Counted, HasCount, NoTallies, NoTally, done_append, done_at, instance_counted, most, none_done}
-use Rattle.run_report.specs.proof_outlines.proofs.joined.Setting.{Setting, start, IsCourse, world_of}
 
 -- no count is more than what the instance has processed
 abbrev pub Below : List Note → List ℕ → Type 0

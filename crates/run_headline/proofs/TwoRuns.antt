@@ -1,11 +1,7 @@
 -- Two runs over one capture say the same of a unit: each says what one instance says that nothing moved.
-use Rattle.std.proofs.Common.{◌≡◌, None, sym, ◌∙◌}
-use Rattle.std.specs.Prelude.{filter, fold, option_to_list, scan}
+use Rattle.run_headline.proofs.Words.{◌≡◌, None, sym, ◌∙◌, filter, fold, option_to_list, scan, kept_after, output_for, unit_at, same_unit, outputs_to}
+use Rattle.run_headline.proofs.Words.{packets_of, record_after, Subject}
 use Rattle.nf_function.specs.declared.unit.Unit as units
-use Rattle.nf_function.specs.Semantics.{kept_after, output_for, unit_at}
-use Rattle.record_table.specs.Table.{same_unit}
-use Rattle.run_headline.specs.Headline.{outputs_to, packets_of, record_after}
-use Rattle.run_headline.specs.Subject.{Subject}
 use Rattle.run_headline.specs.Law.{AreAlike, TwoRunsLaw}
 
 module _ {R : Type 0} (one other : Subject R) (alike : AreAlike one other) (unit : units.Unit) where

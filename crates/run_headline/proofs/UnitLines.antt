@@ -1,24 +1,13 @@
 -- The lines of a unit's records among those of all instances: each instance's, in their order, and sorted by units as they stood.
-use Rattle.std.proofs.Common.{◌≡◌, ℕ, Bool, true, false, cond, Option, Some, None, List, [], ◌∷◌, ◌++◌, map, refl, sym, ap, ◌∙◌, subst}
-use Rattle.std.specs.Prelude.{T, filter, option_to_list}
-use Rattle.std.specs.List.{AllByRecursion, flat_map}
-use Rattle.std.specs.Ordering.{is_lt, ordering_reverse}
-use Rattle.std.specs.declared.cmp.Ordering.{Ordering}
-use Rattle.std.specs.declared.cmp.Ordering.TheVariants.{Less, Equal, Greater}
+use Rattle.run_headline.proofs.Words.{◌≡◌, ℕ, Bool, true, false, cond, Option, Some, None, List, [], ◌∷◌, ◌++◌, map, refl, sym, ap, ◌∙◌, subst, T, filter}
+use Rattle.run_headline.proofs.Words.{option_to_list, AllByRecursion, flat_map, is_lt, Ordering, Less, Equal, Greater, is_sorted, entries_sorted, below_all}
+use Rattle.run_headline.proofs.Words.{and_yes, map-append, filter-append, unit_cmp, units_total, part, same_unit, same_unit-true, same_unit_equiv}
+use Rattle.run_headline.proofs.Words.{NamedInstance, NamedRecord, named_records, sorted_by, IsUp, less}
+use Rattle.std.specs.Ordering.{ordering_reverse}
 use Rattle.std.specs.FinMap as finite
-use Rattle.std.specs.FinMap.{is_sorted, entries_sorted}
-use Rattle.std.specs.FinMap.Entries.{below_all, find}
-use Rattle.std.proofs.Math.Facts.{and_yes}
-use Rattle.std.proofs.lemmas.List.{map-append}
-use Rattle.std.proofs.lemmas.List.Elements.{filter-append}
+use Rattle.std.specs.FinMap.Entries.{find}
 use Rattle.nf_function.specs.declared.unit.Unit as units
-use Rattle.nf_function.specs.Units.{unit_cmp}
-use Rattle.nf_function.specs.UnitOrder.{units_total}
-use Rattle.record_table.specs.Table.{part, same_unit}
-use Rattle.record_table.proofs.UnitOrder.{same_unit-true, same_unit_equiv}
-use Rattle.report_lines.specs.Lines.{NamedInstance, NamedRecord, named_records}
-use Rattle.report_lines.specs.Sorting.{sorted_by}
-use Rattle.report_lines.proofs.SortLemmas.{IsUp, less, weaker}
+use Rattle.report_lines.proofs.SortLemmas.{weaker}
 use Rattle.run_headline.proofs.SortedParts.{part_stays}
 
 -- what is its own reverse isn't less

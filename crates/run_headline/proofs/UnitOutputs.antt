@@ -1,30 +1,15 @@
 -- The outputs of a unit that no plain move handed on, as they stand among all outputs sorted by the packets' numbers.
-use Rattle.std.proofs.Common.{◌≡◌, ℕ, suc, Bool, true, false, cond, Option, Some, None, List, [], ◌∷◌, map, refl, sym, ap, ◌∙◌, subst, arith}
-use Rattle.std.specs.Prelude.{◌==◌, filter, filter_map, find, fold, scan, zip}
-use Rattle.std.specs.List.{AllByRecursion}
-use Rattle.flow_filter.specs.declared.packet.Packet.{Packet}
-use Rattle.nf_function.specs.declared.output.Output.{Output}
+use Rattle.run_headline.proofs.Words.{◌≡◌, ℕ, suc, Bool, true, false, cond, Option, Some, None, List, [], ◌∷◌, map, refl, sym, ap, ◌∙◌, subst, arith, ◌==◌}
+use Rattle.run_headline.proofs.Words.{filter, filter_map, find, fold, scan, zip, AllByRecursion, Packet, Output, Semantics, kept_after, output_for, Msg, Note}
+use Rattle.run_headline.proofs.Words.{Network, Config, Node, IsRising, packets, dones_in, done_where, is_loose, by_number, output_in, outs_of, outputs_to}
+use Rattle.run_headline.proofs.Words.{packets_of, is_of, subject, nat_cmp_total, Setting}
 use Rattle.nf_function.specs.declared.unit.Unit as units
-use Rattle.nf_function.specs.Semantics.{Semantics, kept_after, output_for}
-use Rattle.nf_msgs.specs.declared.msg.Msg.{Msg}
-use Rattle.nf_msgs.specs.declared.note.Note.{Note}
 use Rattle.nf_msgs.specs.declared.note.Note.TheVariants as note
-use Rattle.actor_net.specs.Network.{Network}
-use Rattle.net_world.specs.declared.config.Config.{Config}
-use Rattle.net_world.specs.declared.node.Node.{Node}
 use Rattle.net_world.specs.Fold as folds
-use Rattle.net_world.specs.Input.{IsRising, packets}
-use Rattle.net_world.specs.Log.{dones_in, done_where}
-use Rattle.net_world.specs.Places.{is_loose}
 use Rattle.run_report.specs.nf_net.specs.Promises.{Promises, Completed}
-use Rattle.report_lines.specs.Lines.{by_number, output_in}
-use Rattle.run_headline.specs.Headline.{outs_of, outputs_to, packets_of, is_of}
-use Rattle.run_headline.specs.Law.{subject}
 use Rattle.run_headline.proofs.FoundNumbers.{all_found, rising_from}
 use Rattle.run_headline.proofs.others.PacketNumbers.{filter_numbers, numbered_is, tests_agree as tests_found}
 use Rattle.run_headline.proofs.SortedParts.{all_filter, part_stays, up_rising}
-use Rattle.std.proofs.lemmas.Cmp.{nat_cmp_total}
-use Rattle.run_report.specs.proof_outlines.proofs.joined.Setting.{Setting}
 
 abbrev Outs : Type 0
 Outs = List (ℕ × Output)

@@ -1,17 +1,11 @@
 -- The records of a unit among those of all instances, sorted by their units: at most one, which is that of one instance that nothing moved.
-use Rattle.std.proofs.Common.{◌≡◌, ℕ, zero, suc, true, Option, Some, None, List, [], ◌∷◌, ◌++◌, length, map, ap, ◌∙◌, arith, refl}
-use Rattle.std.specs.Prelude.{T, Bool, option_to_list, zip}
-use Rattle.std.specs.List.{flat_map}
+use Rattle.run_headline.proofs.Words.{◌≡◌, ℕ, zero, suc, true, Option, Some, None, List, [], ◌∷◌, ◌++◌, length, map, ap, ◌∙◌, arith, refl, T, option_to_list}
+use Rattle.run_headline.proofs.Words.{zip, flat_map, is_sorted, unit_cmp, part, InstanceState, NamedInstance, NamedRecord, named_records, sorted_by}
+use Rattle.run_headline.proofs.Words.{instance_under}
+use Rattle.std.specs.Prelude.{Bool}
 use Rattle.std.specs.FinMap as finite
-use Rattle.std.specs.FinMap.{is_sorted}
 use Rattle.std.specs.FinMap.Entries.{find}
 use Rattle.nf_function.specs.declared.unit.Unit as units
-use Rattle.nf_function.specs.Units.{unit_cmp}
-use Rattle.record_table.specs.Table.{part}
-use Rattle.instance_worker.specs.declared.instance.Instance.{Instance as InstanceState}
-use Rattle.report_lines.specs.Lines.{NamedInstance, NamedRecord, named_records}
-use Rattle.report_lines.specs.Sorting.{sorted_by}
-use Rattle.run_report.specs.Lines.{instance_under}
 use Rattle.run_headline.proofs.UnitLines.{each_line, found_line, kept_each, kept_in, own, sorted_own}
 
 -- where none is there, it is none

@@ -1,27 +1,11 @@
 -- A unit that no move that is done takes stays at the instance to which its route leads, and no plain move covers it.
-use Rattle.std.proofs.Common.{◌≡◌, ℕ, Bool, true, false, not, ◌&&◌, ◌||◌, Option, Some, None, List, [], ◌∷◌, ◌++◌, map, refl, sym, ap, ◌∙◌, arith}
-use Rattle.std.specs.Prelude.{◌==◌}
-use Rattle.std.specs.List.{list_any}
-use Rattle.std.proofs.Math.Bool.{or-true}
-use Rattle.std.proofs.lemmas.Bool.{or_parts}
-use Rattle.std.proofs.lemmas.Bool.Decides.{nat_tests}
+use Rattle.run_headline.proofs.Words.{◌≡◌, ℕ, Bool, true, false, not, ◌&&◌, ◌||◌, Option, Some, None, List, [], ◌∷◌, ◌++◌, map, refl, sym, ap, ◌∙◌, arith}
+use Rattle.run_headline.proofs.Words.{◌==◌, list_any, or-true, or_parts, nat_tests, Semantics, takes, Command, Order, Move, Copy, Share, Msg, Note, Config}
+use Rattle.run_headline.proofs.Words.{Answers, commands, order_numbered, installs_in, answer_in, first_owner, owner_after_order, owner, by_number, is_answered}
+use Rattle.run_headline.proofs.Words.{is_done, moves}
 use Rattle.nf_function.specs.declared.unit.Unit as units
-use Rattle.nf_function.specs.Semantics.{Semantics}
-use Rattle.nf_function.specs.Units.{takes}
-use Rattle.nf_msgs.specs.declared.command.Command.{Command}
-use Rattle.nf_msgs.specs.declared.command.Order.{Order}
-use Rattle.nf_msgs.specs.declared.command.Order.TheVariants.{Move, Copy, Share}
-use Rattle.nf_msgs.specs.declared.msg.Msg.{Msg}
-use Rattle.nf_msgs.specs.declared.note.Note.{Note}
-use Rattle.net_world.specs.declared.config.Config.{Config}
-use Rattle.net_world.specs.Commands.{Answers}
-use Rattle.net_world.specs.Input.{commands, order_numbered}
-use Rattle.net_world.specs.Log.{installs_in, answer_in}
-use Rattle.net_world.specs.Places.{first_owner, owner_after_order, owner, owner_after}
+use Rattle.net_world.specs.Places.{owner_after}
 use Rattle.net_world.proofs.LogLemmas.{installed-append}
-use Rattle.report_lines.specs.Lines.{by_number}
-use Rattle.run_headline.specs.Causes.{is_answered, is_done}
-use Rattle.run_headline.specs.Headline.{moves}
 use Rattle.run_headline.proofs.AnswerLines.{some}
 use Rattle.run_headline.proofs.CoveredUnits.{installed_any}
 

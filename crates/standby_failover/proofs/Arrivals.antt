@@ -1,17 +1,9 @@
 -- The lost packets by their numbers are those of the list by their order, picked out of what came; and each packet of the log is one of the input.
-use Rattle.std.proofs.Common.{◌≡◌, ℕ, Bool, true, false, Option, Some, List, [], ◌∷◌, map, drop, filter, refl, sym, ap, ◌∙◌, arith}
-use Rattle.std.specs.Prelude.{if◌then◌else◌, ◌==◌, ◌&&◌, ◌||◌, find}
-use Rattle.std.proofs.lemmas.Bool.{and_parts}
+use Rattle.standby_failover.proofs.Words.{◌≡◌, ℕ, Bool, true, false, Option, Some, List, [], ◌∷◌, map, drop, filter, refl, sym, ap, ◌∙◌, arith, if◌then◌else◌}
+use Rattle.standby_failover.proofs.Words.{◌==◌, ◌&&◌, ◌||◌, find, and_parts, Packet, is_of, packets, arrivals_in, dones_in, unit_in, times_filter, done_times}
+use Rattle.standby_failover.proofs.Words.{Failover, lost_in_order, numbers_done, processed_of, reflected_by, is_affected, is_in, is_lost, IsLeft}
 use Rattle.std.proofs.lemmas.Cmp.{nat_eq_equiv}
-use Rattle.flow_filter.specs.declared.packet.Packet.{Packet}
-use Rattle.net_world.specs.Fold.{is_of}
-use Rattle.net_world.specs.Input.{packets}
-use Rattle.net_world.specs.Log.{arrivals_in, dones_in}
-use Rattle.net_world.specs.Places.{unit_in}
-use Rattle.net_world.proofs.NumberCounts.{times_filter}
-use Rattle.nf_net.proofs.PacketCounts.{done_times}
-use Rattle.standby_failover.specs.Failover.{Failover, lost_in_order, lost_packets, numbers_done}
-use Rattle.standby_failover.specs.Failover.{processed_of, reflected_by, is_affected, is_in, is_lost, IsLeft}
+use Rattle.standby_failover.specs.Failover.{lost_packets}
 use Rattle.standby_failover.proofs.ListLemmas.{in_filter, in_drop, in-append, filter_same, none_times, some_in}
 use Rattle.standby_failover.proofs.Reflected.{of_itself, processed_those}
 

@@ -1,28 +1,18 @@
 -- Records that are stepped on the lost packets, as they were processed, and then on those that came and weren't are those of all packets that came.
-use Rattle.std.proofs.Common.{◌≡◌, ℕ, Bool, true, false, Option, Some, None, List, [], ◌∷◌, ◌++◌}
-use Rattle.std.proofs.Common.{map, take, drop, filter, append_assoc, refl, sym, ap, ◌∙◌, subst}
-use Rattle.std.specs.Prelude.{if◌then◌else◌, ◌&&◌, not, is_some}
+use Rattle.standby_failover.proofs.Words.{◌≡◌, ℕ, Bool, true, false, Option, Some, None, List, [], ◌∷◌, ◌++◌, map, take, drop, filter, append_assoc, refl, sym}
+use Rattle.standby_failover.proofs.Words.{ap, ◌∙◌, subst, if◌then◌else◌, ◌&&◌, not, is_some, true≢false, and_parts, map-append, take-append-drop, Packet}
+use Rattle.standby_failover.proofs.Words.{Semantics, kept_after, Records, TableView, same_unit, same_unit_equiv, same_unit-true, arrived_of, fold, is_of}
+use Rattle.standby_failover.proofs.Words.{packet_numbered, packets, arrivals_in, unit_in, live_at, input_fits, Promoted, Failover, record_kept, lost_in_order}
+use Rattle.standby_failover.proofs.Words.{open_packets, numbers_done, processed_of, reflected_by, standing, is_affected, is_in, is_lost, is_open, IsLeft}
+use Rattle.standby_failover.proofs.Words.{IsPromoted, after_packets, packet_among}
 use Rattle.std.specs.FinMap as finite
-use Rattle.std.proofs.lemmas.Bool.{true≢false, and_parts}
-use Rattle.std.proofs.lemmas.List.{map-append, take-append-drop}
-use Rattle.flow_filter.specs.declared.packet.Packet.{Packet}
 use Rattle.flow_filter.specs.declared.site.Site.{Site}
 use Rattle.nf_function.specs.declared.unit.Unit as units
-use Rattle.nf_function.specs.Semantics.{Semantics, kept_after}
-use Rattle.record_table.specs.Table.{Records, TableView, after_packet, same_unit}
-use Rattle.record_table.proofs.UnitOrder.{same_unit_equiv, same_unit-true}
+use Rattle.record_table.specs.Table.{after_packet}
 use Rattle.record_table.proofs.RecordLookUps.{get-after_packet}
-use Rattle.net_world.specs.Fold.{arrived_of, fold, is_of}
-use Rattle.net_world.specs.Input.{packet_numbered, packets}
-use Rattle.net_world.specs.Log.{arrivals_in}
-use Rattle.net_world.specs.Places.{unit_in}
-use Rattle.net_world.specs.Records.{live_at, HasOneRecord, Has_none, Is_given, Is_live, Is_on_way}
+use Rattle.net_world.specs.Records.{HasOneRecord, Has_none, Is_given, Is_live, Is_on_way}
 use Rattle.net_world.specs.Seen.{HasRecord, HasSeen, Lacks_last, Sees_all}
-use Rattle.nf_net.specs.proof_outlines.proofs.joined.StartJoined.{input_fits}
-use Rattle.standby_failover.specs.declared.promoted.Promoted.{Promoted}
-use Rattle.standby_failover.specs.Failover.{Failover, record_kept, lost_in_order, open_of, open_packets, numbers_done, processed_of}
-use Rattle.standby_failover.specs.Failover.{reflected_by, standing, is_affected, is_in, is_lost, is_open, HasCaughtUp, IsLeft, IsPromoted}
-use Rattle.standby_failover.specs.Stepping.{after_packets, packet_among}
+use Rattle.standby_failover.specs.Failover.{open_of, HasCaughtUp}
 use Rattle.standby_failover.proofs.ListLemmas.{IsOnce, those_filter, in_filter, filter_same, filter_none, later_kept, once_those, front_and_others}
 use Rattle.standby_failover.proofs.Reflected.{processed_those, once_done}
 

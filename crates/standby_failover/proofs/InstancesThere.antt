@@ -1,22 +1,11 @@
 -- In a world of a run the node of each instance is an instance.
-use Rattle.std.proofs.Common.{◌≡◌, ℕ, ◌+◌, ◌<◌, true, List, length, ap, ◌∙◌, arith, Some}
-use Rattle.std.specs.Prelude.{slice_get}
-use Rattle.std.proofs.lemmas.Option.{slice_get-get_or}
-use Rattle.nf_function.specs.Records.{Laws as FunctionLaws}
-use Rattle.nf_msgs.specs.declared.msg.Msg.{Msg}
-use Rattle.nf_msgs.specs.declared.note.Note.{Note}
-use Rattle.nf_msgs.specs.Nodes.{instance_node}
-use Rattle.actor_net.specs.declared.choice.Choice.{Choice}
-use Rattle.actor_net.specs.Network.{Network}
+use Rattle.standby_failover.proofs.Words.{◌≡◌, ℕ, ◌+◌, ◌<◌, true, List, length, ap, ◌∙◌, arith, Some, slice_get, slice_get-get_or, FunctionLaws, Msg, Note}
+use Rattle.standby_failover.proofs.Words.{instance_node, Choice, Network, Node, Instance, node_step, node_ready, is_instance, Setting, IsCourse, world_of}
 use Rattle.actor_net.proofs.RunInduction.{run_world}
-use Rattle.net_world.specs.declared.node.Node.{Node}
-use Rattle.net_world.specs.declared.node.Node.TheVariants.{Instance}
-use Rattle.net_world.specs.Nodes.{node_step, node_ready}
-use Rattle.net_world.specs.Tables.{is_instance}
 use Rattle.nf_net.specs.proof_outlines.proofs.joined.StartJoined.{count_at_start}
 use Rattle.nf_net.specs.proof_outlines.proofs.joined.RunsJoined.{run_beside, start_world}
 use Rattle.nf_net.proofs.paths.RecordPromises.{instance_of}
-use Rattle.nf_net.specs.proof_outlines.proofs.joined.Setting.{Setting, start, IsCourse, world_of}
+use Rattle.nf_net.specs.proof_outlines.proofs.joined.Setting.{start}
 
 module _ {F R : Type 0} (setting : Setting F R) (cs : List Choice) where
   open setting use {function as f, config as c}

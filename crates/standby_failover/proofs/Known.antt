@@ -1,13 +1,9 @@
 -- The lost and the open packets are packets of the input.
-use Rattle.std.proofs.Common.{◌≡◌, ℕ, true, List, [], ◌∷◌, ◌++◌, Some, Option, drop, take, length, refl, sym, ap, ◌∙◌}
-use Rattle.std.specs.Prelude.{◌==◌, ◌||◌, All, IsSome, find, is_some}
-use Rattle.std.proofs.Math.Bool.{or-true}
+use Rattle.standby_failover.proofs.Words.{◌≡◌, ℕ, true, List, [], ◌∷◌, ◌++◌, Some, Option, drop, take, length, refl, sym, ap, ◌∙◌, ◌==◌, ◌||◌, All, IsSome}
+use Rattle.standby_failover.proofs.Words.{find, is_some, or-true, take_at, packets, arrivals_in, Promoted, Failover, lost_in_order, numbers_done, open_packets}
+use Rattle.standby_failover.proofs.Words.{is_in, is_lost, is_open, IsLeft, IsPromoted}
 use Rattle.std.proofs.lemmas.List.Elements.{All-append, All-cons, All-filter, All-nil, All-same, All-weaker, All-take, All-drop}
-use Rattle.std.proofs.lemmas.List.{take_at, drop_at}
-use Rattle.net_world.specs.Input.{packets}
-use Rattle.net_world.specs.Log.{arrivals_in}
-use Rattle.standby_failover.specs.declared.promoted.Promoted.{Promoted}
-use Rattle.standby_failover.specs.Failover.{Failover, lost_in_order, numbers_done, open_packets, is_in, is_lost, is_open, IsLeft, IsPromoted}
+use Rattle.std.proofs.lemmas.List.{drop_at}
 use Rattle.standby_failover.proofs.ListLemmas.{same_number}
 use Rattle.standby_failover.proofs.Arrivals.{found_came, found_done}
 

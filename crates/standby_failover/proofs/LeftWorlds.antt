@@ -1,18 +1,9 @@
 -- In the world that the choices of a run lead to, what stands by has seen what it has counted, whichever two instances these are.
-use Rattle.std.proofs.Common.{ℕ, List}
-use Rattle.nf_function.specs.Records.{Laws as FunctionLaws}
-use Rattle.nf_msgs.specs.declared.msg.Msg.{Msg}
-use Rattle.nf_msgs.specs.declared.note.Note.{Note}
-use Rattle.actor_net.specs.declared.choice.Choice.{Choice}
-use Rattle.actor_net.specs.Network.{Network}
-use Rattle.net_world.specs.declared.node.Node.{Node}
-use Rattle.net_world.specs.Jobs.{job_of}
-use Rattle.nf_net.specs.Promises.{Promises}
+use Rattle.standby_failover.proofs.Words.{ℕ, List, FunctionLaws, Msg, Note, Choice, Network, Node, job_of, Promises, Failover, IsLeft, failover_of, Setting}
+use Rattle.standby_failover.proofs.Words.{IsCourse, world_of}
 use Rattle.nf_net.proofs.EveryRun.{every_run}
 use Rattle.nf_net.proofs.StandbyRuns.{standbys}
-use Rattle.standby_failover.specs.Failover.{Failover, IsLeft, failover_of}
 use Rattle.standby_failover.proofs.Reflected.{reflects}
-use Rattle.nf_net.specs.proof_outlines.proofs.joined.Setting.{Setting, IsCourse, world_of}
 
 module _ {F R : Type 0} (setting : Setting F R) (cs : List Choice) (failed to : ℕ) where
   open setting use {function as f, laws, config as c, items, is_input as is}

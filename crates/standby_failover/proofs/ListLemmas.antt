@@ -1,15 +1,11 @@
 -- Numbers in lists where each stands once: which stand after a front, and what is picked out by that.
-use Rattle.std.proofs.Common.{◌≡◌, ℕ, ◌+◌, ◌<◌, ◌≤◌, Bool, true, false, suc, zero, List, [], ◌∷◌}
-use Rattle.std.proofs.Common.{◌++◌, take, drop, length, filter, refl, sym, ap, ◌∙◌, subst, arith}
-use Rattle.std.specs.Prelude.{if◌then◌else◌, ◌==◌, ◌&&◌, ◌||◌, not}
-use Rattle.std.proofs.Math.Bool.{or-true}
-use Rattle.std.proofs.lemmas.Bool.Decides.{Decides-eqb}
-use Rattle.std.proofs.lemmas.List.{drop-append-le, take-append-drop}
-use Rattle.std.proofs.lemmas.List.Elements.{filter-append}
+use Rattle.standby_failover.proofs.Words.{◌≡◌, ℕ, ◌+◌, ◌<◌, ◌≤◌, Bool, true, false, suc, zero, List, [], ◌∷◌, ◌++◌, take, drop, length, filter, refl, sym, ap}
+use Rattle.standby_failover.proofs.Words.{◌∙◌, subst, arith, if◌then◌else◌, ◌==◌, ◌&&◌, ◌||◌, not, or-true, Decides-eqb, take-append-drop, filter-append}
+use Rattle.standby_failover.proofs.Words.{IsFront, times_filter, is_in}
+use Rattle.std.proofs.lemmas.List.{drop-append-le}
 use Rattle.std.proofs.lemmas.List.Folds.{list_any-append}
-use Rattle.net_world.specs.Fold.{IsFront, times}
-use Rattle.net_world.proofs.NumberCounts.{times-append, times_filter}
-use Rattle.standby_failover.specs.Failover.{is_in}
+use Rattle.net_world.specs.Fold.{times}
+use Rattle.net_world.proofs.NumberCounts.{times-append}
 
 -- a number that doesn't stand in a list, and one that does
 none_next : (b : Bool) (n : ℕ) (is : Bool) → (if b then 1 else 0) + n ≡ 0 → (n ≡ 0 → is ≡ false) → (b || is) ≡ false

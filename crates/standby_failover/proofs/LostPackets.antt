@@ -1,30 +1,21 @@
 -- Which packets are lost, as the log goes on: those of an affected unit that come when the record that stands by has no more to be seen.
-use Rattle.std.proofs.Common.{◌≡◌, ℕ, zero, suc, ◌<◌, ◌≤◌, Bool, true, false, Option, Some, None, List, [], ◌∷◌, ◌++◌}
-use Rattle.std.proofs.Common.{take, drop, length, filter, length-append, append-nil, refl, sym, ap, ◌∙◌, subst, arith}
-use Rattle.std.specs.Prelude.{if◌then◌else◌, ◌&&◌, nat_lt}
+use Rattle.standby_failover.proofs.Words.{◌≡◌, ℕ, zero, suc, ◌<◌, ◌≤◌, Bool, true, false, Option, Some, None, List, [], ◌∷◌, ◌++◌, take, drop, length, filter}
+use Rattle.standby_failover.proofs.Words.{append-nil, refl, sym, ap, ◌∙◌, subst, arith, if◌then◌else◌, ◌&&◌, get-empty, nat_tests, true≢false, take_all}
+use Rattle.standby_failover.proofs.Words.{filter-append, FunctionLaws, Semantics, kept_after, packets_in, unit_cmp, Records, same_unit, same_unit_equiv}
+use Rattle.standby_failover.proofs.Words.{same_unit-true, fold, is_of, packet_numbered, unit_in, Failover, record_kept, numbers_done, processed_of}
+use Rattle.standby_failover.proofs.Words.{reflected_by, standing, is_affected, is_in, is_lost, IsLeft, has_seen_more}
+use Rattle.std.proofs.Common.{length-append}
+use Rattle.std.specs.Prelude.{nat_lt}
 use Rattle.std.specs.FinMap as finite
-use Rattle.std.specs.FinMap.{get-empty}
-use Rattle.std.proofs.lemmas.Bool.Decides.{nat_tests}
-use Rattle.std.proofs.lemmas.Bool.{true≢false}
-use Rattle.std.proofs.lemmas.List.{take-append-le, take_all}
-use Rattle.std.proofs.lemmas.List.Elements.{filter-append}
+use Rattle.std.proofs.lemmas.List.{take-append-le}
 use Rattle.std.specs.Cmp.{nat_cmp_is}
 use Rattle.std.specs.Cmp.Lexicographic.{slice_cmp}
 use Rattle.std.specs.Ordering.{nat_cmp, is_gt, ordering_then}
 use Rattle.std.specs.declared.cmp.Ordering.{Ordering}
 use Rattle.std.specs.declared.cmp.Ordering.TheVariants.{Greater}
 use Rattle.nf_function.specs.declared.unit.Unit as units
-use Rattle.nf_function.specs.Records.{is_newer, Laws as FunctionLaws}
-use Rattle.nf_function.specs.Semantics.{Semantics, kept_after, packets_in}
-use Rattle.nf_function.specs.Units.{unit_cmp}
+use Rattle.nf_function.specs.Records.{is_newer}
 use Rattle.nf_function.proofs.RecordOrder.{newer_is_order}
-use Rattle.record_table.specs.Table.{Records, same_unit}
-use Rattle.record_table.proofs.UnitOrder.{same_unit_equiv, same_unit-true}
-use Rattle.net_world.specs.Fold.{fold, is_of}
-use Rattle.net_world.specs.Input.{packet_numbered}
-use Rattle.net_world.specs.Places.{unit_in}
-use Rattle.standby_failover.specs.Failover.{Failover, record_kept, numbers_done, processed_of, reflected_by, standing, is_affected, is_in, is_lost, IsLeft}
-use Rattle.standby_failover.specs.Scenes.{has_seen_more}
 use Rattle.standby_failover.proofs.ListLemmas.{IsOnce, after_first, among, once_those}
 use Rattle.standby_failover.proofs.Reflected.{of_itself, processed_those, once_done, room, counts}
 

@@ -1,13 +1,9 @@
 -- Marks of numbers, one for each number from 0: more room marks no number, and one mark more is one number more.
-use Rattle.std.proofs.Common.{◌≡◌, ℕ, ◌+◌, ◌<◌, ◌≤◌, Bool, true, false, zero, suc, List, [], ◌∷◌}
-use Rattle.std.proofs.Common.{◌++◌, length, take, get_or, set, replicate, refl, sym, ap, ◌∙◌}
-use Rattle.std.specs.Prelude.{◌==◌, ◌||◌}
-use Rattle.std.proofs.lemmas.Bool.Decides.{Decides-eqb}
-use Rattle.std.proofs.lemmas.Bool.{true≢false}
+use Rattle.standby_failover.proofs.Words.{◌≡◌, ℕ, ◌+◌, ◌<◌, ◌≤◌, Bool, true, false, zero, suc, List, [], ◌∷◌, ◌++◌, length, take, get_or, refl, sym, ap, ◌∙◌}
+use Rattle.standby_failover.proofs.Words.{◌==◌, ◌||◌, Decides-eqb, true≢false, take_all, take_more, is_in, is_marked}
+use Rattle.std.proofs.Common.{set, replicate}
 use Rattle.std.proofs.lemmas.Grind.{get_or-set_at}
-use Rattle.std.proofs.lemmas.List.{get_or-set_other, take_all, take_more}
-use Rattle.standby_failover.specs.Failover.{is_in}
-use Rattle.standby_failover.specs.Scenes.{is_marked}
+use Rattle.std.proofs.lemmas.List.{get_or-set_other}
 use Rattle.standby_failover.proofs.ListLemmas.{in-append}
 
 -- room alone marks none

@@ -1,14 +1,10 @@
 -- The numbers of packets that a loop over a log or a list has met so far: those of one place more.
-use Rattle.std.proofs.Common.{◌≡◌, ℕ, ◌+◌, ◌<◌, Bool, true, false, List, [], ◌∷◌, ◌++◌, map, take, drop, get_or, length, filter, append-nil, refl, sym, ap, ◌∙◌}
-use Rattle.std.specs.Prelude.{if◌then◌else◌}
-use Rattle.std.proofs.lemmas.List.{map-append, take_more, drop_more, take-append-drop}
-use Rattle.std.proofs.lemmas.List.Elements.{filter-append}
-use Rattle.nf_msgs.specs.declared.note.Note.{Note}
+use Rattle.standby_failover.proofs.Words.{◌≡◌, ℕ, ◌+◌, ◌<◌, Bool, true, false, List, [], ◌∷◌, ◌++◌, map, take, drop, get_or, length, filter, append-nil, refl}
+use Rattle.standby_failover.proofs.Words.{sym, ap, ◌∙◌, if◌then◌else◌, map-append, take_more, take-append-drop, filter-append, Note, Output, arrivals_in}
+use Rattle.standby_failover.proofs.Words.{dones_in, is_in, numbers_done}
+use Rattle.std.proofs.lemmas.List.{drop_more}
 use Rattle.nf_msgs.specs.declared.note.Note.TheVariants as note
-use Rattle.nf_function.specs.declared.output.Output.{Output}
-use Rattle.net_world.specs.Log.{arrivals_in, dones_in}
 use Rattle.net_world.proofs.LogLemmas.{arrived-append, done-append}
-use Rattle.standby_failover.specs.Failover.{is_in, numbers_done}
 use Rattle.standby_failover.proofs.ListLemmas.{in_middle}
 
 -- the notes up to a place, with one more

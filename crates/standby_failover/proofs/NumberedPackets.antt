@@ -1,8 +1,6 @@
 -- Among packets that are numbered from 1 the one with a number stands at its place.
-use Rattle.std.proofs.Common.{◌≡◌, ℕ, zero, suc, ◌+◌, ◌-◌, ◌<◌, ◌≤◌, true, false, Option, None, List, [], ◌∷◌, refl, ap, ◌∙◌, arith}
-use Rattle.std.specs.Prelude.{◌==◌, find, slice_get}
-use Rattle.std.proofs.lemmas.Bool.Decides.{nat_tests}
-use Rattle.flow_filter.specs.declared.packet.Packet.{Packet}
+use Rattle.standby_failover.proofs.Words.{◌≡◌, ℕ, zero, suc, ◌+◌, ◌-◌, ◌<◌, ◌≤◌, true, false, Option, None, List, [], ◌∷◌, refl, ap, ◌∙◌, arith, ◌==◌, find}
+use Rattle.standby_failover.proofs.Words.{slice_get, nat_tests, Packet}
 use Rattle.trace_reader.specs.Records.{AreNumbered}
 
 -- the packet with a number

@@ -1,20 +1,16 @@
 -- The records of an instance, and what they are once those of the affected units that stand by are live too.
-use Rattle.std.proofs.Common.{◌≡◌, ◌≢◌, Bool, true, false, Option, Some, None, List, refl, sym, ap, ◌∙◌}
-use Rattle.std.specs.Prelude.{if◌then◌else◌, is_some, slice_get}
+use Rattle.standby_failover.proofs.Words.{◌≡◌, Bool, true, false, Option, Some, None, List, refl, sym, ap, ◌∙◌, if◌then◌else◌, is_some, slice_get, get-empty}
+use Rattle.standby_failover.proofs.Words.{true≢false, unit_cmp, TableView, instance_node, Node, Instance, live_at, table_at, Failover, is_affected, standing}
+use Rattle.standby_failover.proofs.Words.{IsLeft}
+use Rattle.std.proofs.Common.{◌≢◌}
 use Rattle.std.specs.Option.{option_or}
 use Rattle.std.specs.FinMap as finite
-use Rattle.std.specs.FinMap.{contains_key-keys, get-empty}
-use Rattle.std.proofs.lemmas.Bool.{true≢false}
+use Rattle.std.specs.FinMap.{contains_key-keys}
 use Rattle.nf_function.specs.declared.unit.Unit as units
-use Rattle.nf_function.specs.Units.{unit_cmp}
-use Rattle.record_table.specs.Table.{TableView, is_among}
-use Rattle.nf_msgs.specs.Nodes.{instance_node}
-use Rattle.net_world.specs.declared.node.Node.{Node}
-use Rattle.net_world.specs.declared.node.Node.TheVariants.{Instance}
-use Rattle.net_world.specs.Records.{live_in, live_at}
+use Rattle.record_table.specs.Table.{is_among}
+use Rattle.net_world.specs.Records.{live_in}
 use Rattle.net_world.specs.Standby.{standby_in}
-use Rattle.net_world.specs.Tables.{table_at, table_in}
-use Rattle.standby_failover.specs.Failover.{Failover, is_affected, standing, IsLeft}
+use Rattle.net_world.specs.Tables.{table_in}
 
 -- the records of a node by its table
 pub live_table : {F R : Type 0} (o : Option (Node F R)) (u : units.Unit) → live_in u o ≡ finite.get (table_in o).live u

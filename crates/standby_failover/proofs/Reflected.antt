@@ -1,25 +1,20 @@
 -- In a world of a run the record of a unit that stands by has seen exactly as many of its processed packets as it has counted; each packet was processed
 -- once at most.
-use Rattle.std.proofs.Common.{◌≡◌, ℕ, ◌+◌, ◌≤◌, true, Option, Some, None, List, [], ◌∷◌, map, take, length, refl, sym, ap, ◌∙◌, subst, arith}
+use Rattle.standby_failover.proofs.Words.{◌≡◌, ℕ, ◌+◌, ◌≤◌, true, Option, Some, None, List, [], ◌∷◌, map, take, length, refl, sym, ap, ◌∙◌, subst, arith}
+use Rattle.standby_failover.proofs.Words.{take_at, FunctionLaws, packets_in, same_unit_equiv, IsFront, arrived_of, fold, is_of, packet_numbered, packets}
+use Rattle.standby_failover.proofs.Words.{arrivals_in, dones_in, unit_in, times_filter, Promises, done_times, input_fits, Failover, record_kept, numbers_done}
+use Rattle.standby_failover.proofs.Words.{processed_of, reflected_by, standing}
 use Rattle.std.specs.List.{filter}
 use Rattle.std.proofs.Math.Nat.{min-eq_left}
-use Rattle.std.proofs.lemmas.List.{take_at, length-take-le, length-map}
+use Rattle.std.proofs.lemmas.List.{length-take-le, length-map}
 use Rattle.std.proofs.lemmas.List.Sums.{count_by-le-length, length-filter}
 use Rattle.nf_function.specs.declared.unit.Unit as units
-use Rattle.nf_function.specs.Records.{Laws as FunctionLaws}
-use Rattle.nf_function.specs.Semantics.{packets_in}
-use Rattle.record_table.proofs.UnitOrder.{same_unit_equiv}
-use Rattle.net_world.specs.Fold.{IsFront, arrived_of, fold, is_of}
-use Rattle.net_world.specs.Input.{most_counted, packet_numbered, packets, IsInput}
-use Rattle.net_world.specs.Log.{arrivals_in, dones_in}
-use Rattle.net_world.specs.Places.{unit_in}
+use Rattle.net_world.specs.Input.{most_counted, IsInput}
 use Rattle.net_world.specs.Standby.{StandsBy}
-use Rattle.net_world.proofs.NumberCounts.{done_numbers, times_filter}
-use Rattle.nf_net.specs.Promises.{Promises}
+use Rattle.net_world.proofs.NumberCounts.{done_numbers}
 use Rattle.nf_net.proofs.FrontLemmas.{front_length}
-use Rattle.nf_net.proofs.PacketCounts.{no_longer, done_times}
-use Rattle.nf_net.specs.proof_outlines.proofs.joined.StartJoined.{input_fits}
-use Rattle.standby_failover.specs.Failover.{Failover, record_kept, numbers_done, processed_of, reflected_by, standing, AreReflected, IsReflected}
+use Rattle.nf_net.proofs.PacketCounts.{no_longer}
+use Rattle.standby_failover.specs.Failover.{AreReflected, IsReflected}
 use Rattle.standby_failover.proofs.ListLemmas.{IsOnce}
 
 module _ {F R : Type 0} (x : Failover F R) where

@@ -1,14 +1,8 @@
 -- What the world tells that the first of some choices lead to, and whether so many there are.
-use Rattle.std.proofs.Common.{◌≡◌, ℕ, ◌+◌, ◌<◌, ◌≤◌, length, subst, inr, arith}
-use Rattle.std.proofs.lemmas.List.{take_all}
-use Rattle.nf_function.specs.Semantics.{Semantics}
-use Rattle.nf_msgs.specs.declared.msg.Msg.{Msg}
-use Rattle.nf_msgs.specs.declared.note.Note.{Note}
-use Rattle.actor_net.specs.Network.{Network, IsRun}
-use Rattle.net_world.specs.declared.node.Node.{Node}
-use Rattle.net_world.specs.Nodes.{node_step, node_ready}
-use Rattle.net_world.specs.Runs.{LeadsTo}
-use Rattle.standby_failover.specs.Causes.{FirstChoices, IsFailCause, IsReached, taken_among}
+use Rattle.standby_failover.proofs.Words.{◌≡◌, ℕ, ◌+◌, ◌<◌, ◌≤◌, length, subst, inr, arith, take_all, Semantics, Msg, Note, Network, Node, node_step}
+use Rattle.standby_failover.proofs.Words.{node_ready, LeadsTo, FirstChoices, taken_among}
+use Rattle.actor_net.specs.Network.{IsRun}
+use Rattle.standby_failover.specs.Causes.{IsFailCause, IsReached}
 
 -- the first choices lead from a start to a world
 module _ {F R : Type 0} (f : Semantics R) (opening : Network (Node F R) Msg Note) (first : FirstChoices) (w : Network (Node F R) Msg Note)

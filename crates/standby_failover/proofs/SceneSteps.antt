@@ -1,26 +1,16 @@
 -- What the code sees of a world is what the definitions say of it; so each note of a packet that was processed goes on with the lists as they say.
-use Rattle.std.proofs.Common.{◌≡◌, ℕ, ◌+◌, ◌<◌, Bool, true, false, Option, Some, None, List, []}
-use Rattle.std.proofs.Common.{◌∷◌, ◌++◌, take, drop, get_or, length, sym, ap, ◌∙◌, subst}
-use Rattle.std.specs.Prelude.{if◌then◌else◌, ◌&&◌, is_some, not, slice_get, unwrap_or}
+use Rattle.standby_failover.proofs.Words.{◌≡◌, ℕ, ◌+◌, ◌<◌, Bool, true, false, Option, Some, None, List, [], ◌∷◌, ◌++◌, take, drop, get_or, length, sym, ap}
+use Rattle.standby_failover.proofs.Words.{◌∙◌, subst, if◌then◌else◌, ◌&&◌, is_some, not, slice_get, Packet, Output, FunctionLaws, Semantics, kept_after}
+use Rattle.standby_failover.proofs.Words.{unit_at, unit_cmp, Records, same_unit, Note, instance_node, packet_numbered, packets, arrivals_in, unit_in, Failover}
+use Rattle.standby_failover.proofs.Words.{is_affected, is_in, is_open, numbers_done, standing, Stopped, IsSceneOf, affects, failover_in, has_seen_more}
+use Rattle.std.specs.Prelude.{unwrap_or}
 use Rattle.std.specs.FinMap as finite
 use Rattle.std.specs.Option.{option_map_or}
 use Rattle.std.proofs.Math.Bool.{and_comm}
-use Rattle.flow_filter.specs.declared.packet.Packet.{Packet}
-use Rattle.nf_function.specs.declared.output.Output.{Output}
 use Rattle.nf_function.specs.declared.unit.Unit as units
-use Rattle.nf_function.specs.Records.{Laws as FunctionLaws}
-use Rattle.nf_function.specs.Semantics.{Semantics, kept_after, unit_at}
-use Rattle.nf_function.specs.Units.{unit_cmp}
-use Rattle.record_table.specs.Table.{Records, same_unit}
-use Rattle.nf_msgs.specs.declared.note.Note.{Note}
 use Rattle.nf_msgs.specs.declared.note.Note.TheVariants as note
-use Rattle.nf_msgs.specs.Nodes.{instance_node}
-use Rattle.net_world.specs.Input.{packet_numbered, packets, no_packet}
-use Rattle.net_world.specs.Log.{arrivals_in}
-use Rattle.net_world.specs.Places.{unit_in}
+use Rattle.net_world.specs.Input.{no_packet}
 use Rattle.standby_failover.specs.declared.scene.Scene.{Scene}
-use Rattle.standby_failover.specs.Failover.{Failover, is_affected, is_in, is_open, numbers_done, standing}
-use Rattle.standby_failover.specs.Scenes.{Stopped, IsSceneOf, affects, failover_in, has_seen_more}
 use Rattle.standby_failover.proofs.ListLemmas.{in_middle}
 use Rattle.standby_failover.proofs.Arrivals.{found_came, found_done}
 use Rattle.standby_failover.proofs.LostPackets.{IsUpTo, next_lost, next_other, next_seen, up_to_none}

@@ -1,28 +1,19 @@
 -- The units that a failover affects, its lost and its open packets, and the records once they have caught up: what its lines tell of them.
-use Rattle.std.proofs.Common.{◌≡◌, ℕ, Bool, true, false, ◌&&◌, ◌||◌, not, Option, Some, None, List, [], ◌∷◌, ◌++◌, map, refl, sym, ap, ◌∙◌}
-use Rattle.std.specs.Prelude.{filter, is_some, option_map, slice_get}
-use Rattle.std.specs.List.{AllByRecursion, cons_option, filter_map, flat_map}
+use Rattle.run_headline.proofs.Words.{◌≡◌, ℕ, Bool, true, false, ◌&&◌, ◌||◌, not, Option, Some, None, List, [], ◌∷◌, ◌++◌, map, refl, sym, ap, ◌∙◌, filter}
+use Rattle.run_headline.proofs.Words.{is_some, option_map, slice_get, AllByRecursion, flat_map, and-true, or-true, and_parts, true≢false, Semantics, unit_at}
+use Rattle.run_headline.proofs.Words.{instance_node, is_among, same_unit, same_unit_equiv, commands, order_numbered, packets, arrivals_in, installs_in}
+use Rattle.run_headline.proofs.Words.{is_loose, unit_in, table_at, Failover, IsLeft, is_affected, is_in, promoted_line, filter_same, in_filter, those_filter}
+use Rattle.run_headline.proofs.Words.{moves, numbered_in}
+use Rattle.std.specs.List.{cons_option, filter_map}
 use Rattle.std.specs.FinMap as finite
 use Rattle.std.specs.FinMap.{contains_key-keys}
-use Rattle.std.proofs.Math.Bool.{and-true, or-true}
-use Rattle.std.proofs.lemmas.Bool.{and_parts, true≢false}
 use Rattle.nf_function.specs.declared.unit.Unit as units
-use Rattle.nf_function.specs.Semantics.{Semantics, unit_at}
-use Rattle.nf_msgs.specs.Nodes.{instance_node}
-use Rattle.record_table.specs.Table.{is_among, same_unit}
-use Rattle.record_table.proofs.UnitOrder.{same_unit_equiv}
-use Rattle.net_world.specs.Input.{commands, order_numbered, packets}
-use Rattle.net_world.specs.Log.{arrivals_in, installs_in}
-use Rattle.net_world.specs.Places.{is_loose, unit_in}
-use Rattle.net_world.specs.Tables.{table_at}
-use Rattle.standby_failover.specs.Failover.{Failover, IsLeft, is_affected, is_in}
-use Rattle.standby_failover.specs.Lines.{caught_line, promoted_line}
-use Rattle.standby_failover.proofs.ListLemmas.{filter_all, filter_same, in_filter, those_filter}
+use Rattle.standby_failover.specs.Lines.{caught_line}
+use Rattle.standby_failover.proofs.ListLemmas.{filter_all}
 use Rattle.standby_failover.proofs.PromotedTables.{live_table}
-use Rattle.run_headline.specs.Headline.{moves}
 use Rattle.run_headline.proofs.AnswerLines.{found_any}
 use Rattle.run_headline.proofs.CoveredUnits.{hands_on, is_plain, some_order}
-use Rattle.run_headline.specs.Failover.{LinesOfUnit, may_move, numbered_in}
+use Rattle.run_headline.specs.Failover.{LinesOfUnit, may_move}
 use Rattle.run_headline.proofs.others.FailedPackets.{HaveCome, first, first_is, numbered_are, numbers_are, of, with_numbers}
 use Rattle.run_headline.proofs.others.PacketNumbers.{filter_numbered, numbers}
 

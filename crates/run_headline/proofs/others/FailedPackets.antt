@@ -1,38 +1,21 @@
 -- The packets that came where an instance fails, by their numbers: those of a unit, in the order in which one instance may have got them, are first
 -- those that the record that stands by has seen, then the lost ones, and then the open ones.
-use Rattle.std.proofs.Common.{◌≡◌, ℕ, ◌+◌, ◌≤◌, Bool, true, false, not, ◌&&◌, ◌||◌, Option, None, List, [], ◌∷◌, ◌++◌, length, map, take, drop, refl, sym, ap}
-use Rattle.std.proofs.Common.{◌∙◌, subst, arith}
-use Rattle.std.specs.Prelude.{IsPermutation, ◌==◌, filter, fold}
-use Rattle.std.specs.List.{AllByRecursion}
-use Rattle.std.proofs.Math.Bool.{and-true, or-true}
+use Rattle.run_headline.proofs.Words.{◌≡◌, ℕ, ◌+◌, ◌≤◌, Bool, true, false, not, ◌&&◌, ◌||◌, Option, None, List, [], ◌∷◌, ◌++◌, length, map, take, drop, refl}
+use Rattle.run_headline.proofs.Words.{sym, ap, ◌∙◌, subst, arith, IsPermutation, ◌==◌, filter, fold, AllByRecursion, and-true, or-true, and_parts, map-append}
+use Rattle.run_headline.proofs.Words.{filter-append, Packet, Semantics, kept_after, Msg, Note, same_unit-true, Config, times, packets, arrivals_in, is_loose}
+use Rattle.run_headline.proofs.Words.{unit_in, times-append, times_filter, Failover, IsLeft, is_affected, is_in, is_lost, is_open, lost_packets, open_packets}
+use Rattle.run_headline.proofs.Words.{reflected_by, standing, filter_same, in_filter, same_number, those_filter, is_of, record_after, Subject, subject}
+use Rattle.run_headline.proofs.Words.{numbered_in}
 use Rattle.std.proofs.Math.Seq.{take-append_seam}
-use Rattle.std.proofs.lemmas.Bool.{and_parts}
-use Rattle.std.proofs.lemmas.List.{append-nil, drop-append-le, drop-map, map-append, take-append-le, take-map}
-use Rattle.std.proofs.lemmas.List.Elements.{filter-append}
+use Rattle.std.proofs.lemmas.List.{append-nil, drop-append-le, drop-map, take-append-le, take-map}
 use Rattle.std.proofs.lemmas.List.Sorted.{IsPermutation-map}
-use Rattle.flow_filter.specs.declared.packet.Packet.{Packet}
 use Rattle.nf_function.specs.declared.unit.Unit as units
-use Rattle.nf_function.specs.Semantics.{Semantics, kept_after}
-use Rattle.nf_msgs.specs.declared.msg.Msg.{Msg}
-use Rattle.nf_msgs.specs.declared.note.Note.{Note}
-use Rattle.record_table.proofs.UnitOrder.{same_unit-true}
-use Rattle.net_world.specs.declared.config.Config.{Config}
 use Rattle.net_world.specs.Fold as folds
-use Rattle.net_world.specs.Fold.{times}
-use Rattle.net_world.specs.Input.{packets}
-use Rattle.net_world.specs.Log.{arrivals_in}
-use Rattle.net_world.specs.Places.{is_loose, unit_in}
-use Rattle.net_world.proofs.NumberCounts.{times-append, times_filter}
-use Rattle.standby_failover.specs.Failover.{Failover, IsLeft, is_affected, is_in, is_lost, is_open, record_kept, lost_packets, numbers_done, open_of}
-use Rattle.standby_failover.specs.Failover.{open_packets, processed_of, reflected_by, standing}
-use Rattle.standby_failover.proofs.ListLemmas.{IsOnce, filter_none, filter_same, front_and_others, in_drop, in_filter, later_kept, none_times, not_before}
-use Rattle.standby_failover.proofs.ListLemmas.{once_those, others_are, same_number, some_in, those_filter}
+use Rattle.standby_failover.specs.Failover.{record_kept, numbers_done, open_of, processed_of}
+use Rattle.standby_failover.proofs.ListLemmas.{IsOnce, filter_none, front_and_others, in_drop, later_kept, none_times, not_before, once_those, others_are}
+use Rattle.standby_failover.proofs.ListLemmas.{some_in}
 use Rattle.standby_failover.proofs.Reflected.{once_done, processed_those}
-use Rattle.run_headline.specs.Headline.{is_of, record_after}
-use Rattle.run_headline.specs.Subject.{Subject}
-use Rattle.run_headline.specs.Law.{subject}
 use Rattle.run_headline.proofs.FoundNumbers.{IsFound, all_found}
-use Rattle.run_headline.specs.Failover.{numbered_in}
 use Rattle.run_headline.proofs.others.PacketNumbers.{all_numbered, filter_numbered, has_number, numbered, numbers}
 use Rattle.run_headline.proofs.others.SameNumbers.{another_order}
 

@@ -1,20 +1,14 @@
 -- The report of a failover has the lines of its headline.
-use Rattle.std.proofs.Common.{◌≡◌, ℕ, true, Option, Some, List, [], ◌++◌, sym, ap, ◌∙◌, subst}
-use Rattle.std.specs.Prelude.{codes, if◌then◌else◌, is_some, slice_index_or}
-use Rattle.std.specs.List.{AllByRecursion, IsDistinct, flat_map}
+use Rattle.run_headline.proofs.Words.{◌≡◌, ℕ, true, Option, Some, List, [], ◌++◌, sym, ap, ◌∙◌, subst, codes, if◌then◌else◌, is_some, slice_index_or}
+use Rattle.run_headline.proofs.Words.{AllByRecursion, flat_map, and_parts, append_assoc, TableView, is_among, same_unit, live_at, table_at, Head, Failover}
+use Rattle.run_headline.proofs.Words.{IsLeft, is_affected, is_lost, is_open, lost_packets, open_packets, reflected_by, standing, promoted_line}
+use Rattle.std.specs.List.{IsDistinct}
 use Rattle.std.specs.FinMap as finite
-use Rattle.std.proofs.lemmas.Bool.{and_parts}
-use Rattle.std.proofs.lemmas.List.{append_assoc}
 use Rattle.nf_function.specs.declared.unit.Unit as units
-use Rattle.record_table.specs.Table.{TableView, is_among, same_unit}
 use Rattle.record_table.proofs.MadeChunks.{distinct_entries}
-use Rattle.net_world.specs.Records.{live_at}
-use Rattle.net_world.specs.Tables.{table_at}
-use Rattle.report_lines.specs.declared.heads.Head.{Head}
 use Rattle.standby_failover.specs.declared.promoted.Failing.{Failing}
 use Rattle.standby_failover.specs.declared.promoted.Promoted.{Promoted}
-use Rattle.standby_failover.specs.Failover.{Failover, IsLeft, is_affected, is_lost, is_open, lost_packets, open_packets, reflected_by, standing}
-use Rattle.standby_failover.specs.Lines.{caught_lines, fail_line, failover_text, head_lines, lost_line, open_line, promoted_line, promoted_lines}
+use Rattle.standby_failover.specs.Lines.{caught_lines, fail_line, failover_text, head_lines, lost_line, open_line, promoted_lines}
 use Rattle.run_headline.specs.Failover.{FailHeadline, FailLines, HasOrder, lines_text, listed}
 use Rattle.run_headline.specs.FailoverLaw.{FailoverLaw, IsFailed}
 use Rattle.run_headline.proofs.others.FailedLines.{all_lines, among_affected, caught_text, each_among, keys, lines_of, picked_are, promoted_text, steady}

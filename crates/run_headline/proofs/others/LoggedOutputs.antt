@@ -1,13 +1,7 @@
 -- The outputs that a log notes, by the numbers of their packets; and how often numbers stand among those that pass a test.
-use Rattle.std.proofs.Common.{◌≡◌, ℕ, ◌+◌, Bool, true, false, cond, List, [], ◌∷◌, map, refl, sym, ap, ◌∙◌, arith}
-use Rattle.std.specs.Prelude.{◌==◌, if◌then◌else◌, filter, filter_map}
-use Rattle.std.proofs.lemmas.Bool.Decides.{Decides-eqb}
-use Rattle.nf_msgs.specs.declared.note.Note.{Note}
+use Rattle.run_headline.proofs.Words.{◌≡◌, ℕ, ◌+◌, Bool, true, false, cond, List, [], ◌∷◌, map, refl, sym, ap, ◌∙◌, arith, ◌==◌, if◌then◌else◌, filter}
+use Rattle.run_headline.proofs.Words.{filter_map, Decides-eqb, Note, times, dones_in, times_filter, output_in}
 use Rattle.nf_msgs.specs.declared.note.Note.TheVariants as note
-use Rattle.net_world.specs.Fold.{times}
-use Rattle.net_world.specs.Log.{dones_in}
-use Rattle.net_world.proofs.NumberCounts.{times_filter}
-use Rattle.report_lines.specs.Lines.{output_in}
 
 -- what the log has an output for is what was processed
 pub noted : (log : List Note) → map (λ x. x.0) (filter_map output_in log) ≡ map (λ d. d.number) (dones_in log)

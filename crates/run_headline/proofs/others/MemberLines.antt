@@ -1,17 +1,13 @@
 -- The lines of a unit's records at the members of strong sharing, by what is kept of it at each.
-use Rattle.std.proofs.Common.{◌≡◌, ℕ, suc, ◌+◌, ◌<◌, Bool, Option, None, Some, List, [], ◌∷◌, ◌++◌, length, map, get_or, refl, ap, ◌∙◌, arith}
-use Rattle.std.specs.Prelude.{drop, filter_map, flat_map, option_to_list, take, zip}
+use Rattle.run_headline.proofs.Words.{◌≡◌, ℕ, suc, ◌+◌, ◌<◌, Bool, Option, None, Some, List, [], ◌∷◌, ◌++◌, length, map, get_or, refl, ap, ◌∙◌, arith}
+use Rattle.run_headline.proofs.Words.{filter_map, option_to_list, zip, part, InstanceState, NamedRecord, StrongNode, member_under, under_each}
+use Rattle.std.specs.Prelude.{drop, flat_map, take}
 use Rattle.std.specs.FinMap as finite
 use Rattle.nf_function.specs.declared.unit.Unit as units
-use Rattle.record_table.specs.Table.{part}
-use Rattle.instance_worker.specs.declared.instance.Instance.{Instance as InstanceState}
-use Rattle.report_lines.specs.Lines.{NamedRecord}
 use Rattle.strong_share.specs.Parts.{SwitchState, ControllerState}
-use Rattle.strong_share.specs.declared.node.StrongNode.{StrongNode}
 use Rattle.strong_share.specs.declared.node.StrongNode.TheVariants.{Switch, Ctrl as Controller, Instance}
-use Rattle.strong_share.specs.Report.{member_in, member_under}
+use Rattle.strong_share.specs.Report.{member_in}
 use Rattle.run_headline.proofs.UnitLines.{line}
-use Rattle.run_headline.specs.Strong.{under_each}
 
 module _ {F R : Type 0} where
   -- nodes that are these members

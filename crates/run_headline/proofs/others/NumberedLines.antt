@@ -1,13 +1,7 @@
 -- What is sorted by its numbers has rising numbers each once and in order, where it has each as often as these.
-use Rattle.std.proofs.Common.{◌≡◌, ℕ, suc, ◌+◌, ◌<◌, ◌≤◌, Bool, true, false, cond, List, [], ◌∷◌, map, refl, sym, ap, ◌∙◌, subst, arith}
-use Rattle.std.specs.Prelude.{if◌then◌else◌, ◌==◌, nat_lt}
-use Rattle.std.specs.Ordering.{nat_cmp, is_lt}
-use Rattle.std.specs.declared.cmp.Ordering.TheVariants.{Less, Equal, Greater}
+use Rattle.run_headline.proofs.Words.{◌≡◌, ℕ, suc, ◌+◌, ◌<◌, ◌≤◌, Bool, true, false, cond, List, [], ◌∷◌, map, refl, sym, ap, ◌∙◌, subst, arith, if◌then◌else◌}
+use Rattle.run_headline.proofs.Words.{◌==◌, nat_lt, nat_cmp, is_lt, Less, Equal, Greater, nat_tests, times, IsRising, put_in, sorted_by}
 use Rattle.std.proofs.lemmas.Bool.{ltb-true, ltb-false}
-use Rattle.std.proofs.lemmas.Bool.Decides.{nat_tests}
-use Rattle.net_world.specs.Fold.{times}
-use Rattle.net_world.specs.Input.{IsRising}
-use Rattle.report_lines.specs.Sorting.{put_in, sorted_by}
 
 less_by : (less same : Bool) → is_lt (cond less Less (cond same Equal Greater)) ≡ less
 less_by true same = refl

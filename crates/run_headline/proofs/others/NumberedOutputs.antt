@@ -1,14 +1,8 @@
 -- What stands beside numbers, each once: it is found by them, sorted or not.
-use Rattle.std.proofs.Common.{◌≡◌, ℕ, ◌+◌, ◌≤◌, Bool, true, false, cond, List, [], ◌∷◌, ◌++◌, map, refl, ap, ◌∙◌, arith}
-use Rattle.std.specs.Prelude.{◌==◌, if◌then◌else◌, filter, flat_map}
-use Rattle.std.specs.Ordering.{nat_cmp}
-use Rattle.std.proofs.lemmas.Bool.Decides.{nat_tests}
-use Rattle.std.proofs.lemmas.Cmp.{nat_cmp_total}
-use Rattle.net_world.specs.Fold.{times}
-use Rattle.net_world.proofs.NumberCounts.{numbered_times}
-use Rattle.report_lines.specs.Sorting.{sorted_by}
+use Rattle.run_headline.proofs.Words.{◌≡◌, ℕ, ◌+◌, ◌≤◌, Bool, true, false, cond, List, [], ◌∷◌, ◌++◌, map, refl, ap, ◌∙◌, arith, ◌==◌, if◌then◌else◌, filter}
+use Rattle.run_headline.proofs.Words.{nat_cmp, nat_tests, nat_cmp_total, times, numbered_times, sorted_by, filter_few}
+use Rattle.std.specs.Prelude.{flat_map}
 use Rattle.run_headline.proofs.SortedParts.{one_stays}
-use Rattle.strong_share.proofs.Lists.{filter_few}
 
 module _ {X : Type 0} where
   abbrev pub beside : ℕ → List (ℕ × X) → List (ℕ × X)

@@ -1,11 +1,6 @@
 -- Packets and their numbers, where these rise: a number that one of them has finds that one, and no other.
-use Rattle.std.proofs.Common.{◌≡◌, ℕ, suc, ◌+◌, ◌<◌, ◌≤◌, Bool, true, false, cond, Some, List, [], ◌∷◌, map, refl, sym, ap, ◌∙◌, subst, arith}
-use Rattle.std.specs.Prelude.{◌==◌, if◌then◌else◌, filter, find, unwrap_or}
-use Rattle.std.specs.List.{AllByRecursion}
-use Rattle.std.proofs.lemmas.Bool.Decides.{nat_tests, Decides-eqb}
-use Rattle.flow_filter.specs.declared.packet.Packet.{Packet}
-use Rattle.net_world.specs.Fold.{times}
-use Rattle.net_world.specs.Input.{IsRising, no_packet}
+use Rattle.run_headline.proofs.Words.{◌≡◌, ℕ, suc, ◌+◌, ◌<◌, ◌≤◌, Bool, true, false, cond, Some, List, [], ◌∷◌, map, refl, sym, ap, ◌∙◌, subst, arith, ◌==◌}
+use Rattle.run_headline.proofs.Words.{if◌then◌else◌, filter, find, unwrap_or, AllByRecursion, nat_tests, Decides-eqb, Packet, times, IsRising, no_packet}
 use Rattle.run_headline.proofs.FoundNumbers.{IsFound}
 
 abbrev pub numbers : List Packet → List ℕ

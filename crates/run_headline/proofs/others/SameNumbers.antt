@@ -1,11 +1,7 @@
 -- Numbers that stand as often in one list as in another stand there in another order.
-use Rattle.std.proofs.Common.{◌≡◌, ℕ, ◌+◌, ◌≤◌, true, false, List, [], ◌∷◌, ◌++◌, sym, ap, subst, arith, refl}
-use Rattle.std.specs.Prelude.{IsPermutation, if◌then◌else◌, ◌==◌}
-use Rattle.std.proofs.lemmas.Bool.Decides.{Decides-eqb}
+use Rattle.run_headline.proofs.Words.{◌≡◌, ℕ, ◌+◌, ◌≤◌, true, false, List, [], ◌∷◌, ◌++◌, sym, ap, subst, arith, refl, IsPermutation, if◌then◌else◌, ◌==◌}
+use Rattle.run_headline.proofs.Words.{Decides-eqb, times, none_in, times-append, same_number}
 use Rattle.std.proofs.lemmas.List.Sorted.{IsPermutation-cons, IsPermutation-middle, IsPermutation-refl, IsPermutation-sym, IsPermutation-trans}
-use Rattle.net_world.specs.Fold.{times}
-use Rattle.net_world.proofs.NumberCounts.{none_in, times-append}
-use Rattle.standby_failover.proofs.ListLemmas.{same_number}
 
 -- where a number stands
 record Stands (n : ℕ) (ns : List ℕ) : Type 0 where

@@ -1,35 +1,23 @@
 -- The lines of records in a report of strong sharing: the record of each unit, live at the first member, and standing by at the others where it is shared.
-use Rattle.std.proofs.Common.{◌≡◌, ℕ, suc, ◌+◌, ◌<◌, Bool, true, false, not, Option, Some, None, List, [], ◌∷◌, length, map, refl, sym, ap, ◌∙◌, arith}
-use Rattle.std.specs.Prelude.{◌==◌, if◌then◌else◌, drop, filter, option_to_list, slice_get, take, zip}
-use Rattle.std.specs.List.{flat_map, list_any}
+use Rattle.run_headline.proofs.Words.{◌≡◌, ℕ, suc, ◌+◌, ◌<◌, Bool, true, false, not, Option, Some, None, List, [], ◌∷◌, length, map, refl, sym, ap, ◌∙◌, arith}
+use Rattle.run_headline.proofs.Words.{◌==◌, if◌then◌else◌, filter, option_to_list, slice_get, zip, flat_map, list_any, nat_tests, Laws, Semantics, kept_after}
+use Rattle.run_headline.proofs.Words.{takes, Msg, TableView, part, Network, NamedInstance, by_unit, named_records, StrongNote, StrongNode, member_under}
+use Rattle.run_headline.proofs.Words.{named_members, StrongJob, entries, processed_of, is_of, record_after, Subject, in_turn, under_each, IsStrongRun}
+use Rattle.run_headline.proofs.Words.{strong_subject}
+use Rattle.std.specs.Prelude.{drop, take}
 use Rattle.std.specs.FinMap as finite
-use Rattle.std.proofs.lemmas.Bool.Decides.{nat_tests}
 use Rattle.std.proofs.lemmas.Option.{slice_get-get_or}
 use Rattle.nf_function.specs.declared.unit.Unit as units
-use Rattle.nf_function.specs.Records.{Laws}
-use Rattle.nf_function.specs.Semantics.{Semantics, kept_after}
-use Rattle.nf_function.specs.Units.{takes}
-use Rattle.nf_msgs.specs.declared.msg.Msg.{Msg}
-use Rattle.record_table.specs.Table.{TableView, part}
-use Rattle.actor_net.specs.Network.{Network}
-use Rattle.report_lines.specs.Lines.{NamedInstance, by_unit, named_records}
-use Rattle.strong_share.specs.declared.note.StrongNote.{StrongNote}
-use Rattle.strong_share.specs.declared.node.StrongNode.{StrongNode}
 use Rattle.strong_share.specs.declared.node.StrongNode.TheVariants.{Instance}
-use Rattle.strong_share.specs.Report.{member_under, named_members}
-use Rattle.strong_share.specs.Start.{StrongJob}
 use Rattle.strong_share.specs.Tables.{is_home}
 use Rattle.strong_share.specs.Words as words
-use Rattle.strong_share.specs.Words.{entries, live_in, packet_numbered, processed_of, standby_in}
+use Rattle.strong_share.specs.Words.{live_in, packet_numbered, standby_in}
 use Rattle.strong_share.proofs.Folds.{after, kept_is, seen}
 use Rattle.strong_share.proofs.Scenes.{Scene}
 use Rattle.strong_share.proofs.ServedPackets.{seen_by}
-use Rattle.run_headline.specs.Headline.{is_of, record_after}
-use Rattle.run_headline.specs.Subject.{Subject}
 use Rattle.run_headline.proofs.LineNumbers.{any_own, has_some, none_both, one_kept}
 use Rattle.run_headline.proofs.UnitLines.{each_line, line, sorted_own}
-use Rattle.run_headline.specs.Strong.{in_turn, lines_of, under_each}
-use Rattle.run_headline.specs.StrongLaw.{IsStrongRun, strong_subject}
+use Rattle.run_headline.specs.Strong.{lines_of}
 use Rattle.run_headline.proofs.others.LoggedOutputs.{both_filtered}
 use Rattle.run_headline.proofs.others.MemberLines.{AreNodes, at_first, at_none, at_others, first_long, lines_are, lines_at, names_told, nodes_from}
 use Rattle.run_headline.proofs.others.PacketNumbers.{numbers, tests_agree}

@@ -1,23 +1,13 @@
 -- The report of a completed run of strong sharing has the lines of its headline.
-use Rattle.std.proofs.Common.{◌≡◌, ℕ, true, false, List, ◌++◌, length, sym, ap, ◌∙◌}
-use Rattle.std.specs.Prelude.{codes, filter_map, flat_map}
-use Rattle.std.proofs.lemmas.List.{append_assoc}
-use Rattle.nf_function.specs.Records.{Laws}
-use Rattle.nf_function.specs.Semantics.{Semantics}
-use Rattle.nf_msgs.specs.declared.msg.Msg.{Msg}
-use Rattle.nf_msgs.specs.declared.note.Note.{Note}
-use Rattle.actor_net.specs.Network.{Network}
-use Rattle.report_lines.specs.Lines.{NamedInstance, by_number, by_unit, done_lines, named_line, out_lines, output_in, standby_lines, state_lines, tail_lines}
-use Rattle.strong_share.specs.declared.note.StrongNote.{StrongNote}
-use Rattle.strong_share.specs.declared.node.StrongNode.{StrongNode}
+use Rattle.run_headline.proofs.Words.{◌≡◌, ℕ, true, false, List, ◌++◌, length, sym, ap, ◌∙◌, codes, filter_map, append_assoc, Laws, Semantics, Msg, Note}
+use Rattle.run_headline.proofs.Words.{Network, NamedInstance, by_number, by_unit, done_lines, named_line, out_lines, output_in, standby_lines, state_lines}
+use Rattle.run_headline.proofs.Words.{tail_lines, StrongNote, StrongNode, named_members, StrongJob, entries, inner_notes, done_in, IsStrongRun, strong_subject}
+use Rattle.std.specs.Prelude.{flat_map}
 use Rattle.strong_share.specs.declared.report.StrongHead.{StrongHead}
-use Rattle.strong_share.specs.Report.{event_lines, head_lines, member_lines, named_members, packet_lines, strong_text}
-use Rattle.strong_share.specs.Start.{StrongJob}
-use Rattle.strong_share.specs.Words.{entries, inner_notes}
-use Rattle.run_headline.specs.Law.{done_in}
+use Rattle.strong_share.specs.Report.{event_lines, head_lines, member_lines, packet_lines, strong_text}
 use Rattle.run_headline.proofs.LineNumbers.{done_text}
 use Rattle.run_headline.specs.Strong.{StrongHeadline, StrongLines, lines_text}
-use Rattle.run_headline.specs.StrongLaw.{IsStrongRun, StrongLaw, strong_subject}
+use Rattle.run_headline.specs.StrongLaw.{StrongLaw}
 use Rattle.run_headline.proofs.others.StrongStates as states
 use Rattle.run_headline.proofs.others.StrongTurns as turns
 

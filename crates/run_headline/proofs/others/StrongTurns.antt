@@ -1,47 +1,23 @@
 -- The lines of packets in a report of strong sharing: their numbers, and their outputs in turn.
-use Rattle.std.proofs.Common.{◌≡◌, ℕ, ◌+◌, ◌-◌, ◌%◌, ◌<◌, ◌≤◌, Bool, true, false, ◌&&◌, cond, Option, None, List, [], ◌∷◌, ◌++◌, length, map, refl, sym, ap}
-use Rattle.std.proofs.Common.{◌∙◌, arith}
-use Rattle.std.specs.Prelude.{◌==◌, if◌then◌else◌, nat_lt, filter, filter_map, flat_map, fold, scan}
-use Rattle.std.specs.List.{AllByRecursion}
-use Rattle.std.proofs.Math.Bool.{and-false}
+use Rattle.run_headline.proofs.Words.{◌≡◌, ℕ, ◌+◌, ◌-◌, ◌<◌, ◌≤◌, Bool, true, false, ◌&&◌, cond, Option, None, List, [], ◌∷◌, ◌++◌, length, map, refl, sym, ap}
+use Rattle.run_headline.proofs.Words.{◌∙◌, arith, ◌==◌, if◌then◌else◌, nat_lt, filter, filter_map, fold, scan, AllByRecursion, and-false, Decides-eqb}
+use Rattle.run_headline.proofs.Words.{Decides-ltb, Packet, matches, flow_of, Output, Laws, Semantics, kept_after, output_for, takes, Msg, Note, Network, Each}
+use Rattle.run_headline.proofs.Words.{times, IsRising, dones_in, numbered_times, times_filter, by_number, output_in, StrongNote, StrongNode, StrongCompleted}
+use Rattle.run_headline.proofs.Words.{StrongPromises, StrongJob, entries, inner_notes, processed_of, IsRight, filter_few, is_of, outputs_to, packets_of}
+use Rattle.run_headline.proofs.Words.{record_after, Subject, done_in, in_turn, IsStrongRun, strong_subject}
+use Rattle.std.proofs.Common.{◌%◌}
+use Rattle.std.specs.Prelude.{flat_map}
 use Rattle.std.proofs.Math.Nat.{mod-lt}
-use Rattle.std.proofs.lemmas.Bool.Decides.{Decides-eqb, Decides-ltb}
-use Rattle.flow_filter.specs.declared.packet.Packet.{Packet}
-use Rattle.flow_filter.specs.Filter.{matches}
-use Rattle.flow_filter.specs.Flow.{flow_of}
-use Rattle.nf_function.specs.declared.output.Output.{Output}
 use Rattle.nf_function.specs.declared.unit.Unit as units
-use Rattle.nf_function.specs.Records.{Laws}
-use Rattle.nf_function.specs.Semantics.{Semantics, kept_after, output_for}
-use Rattle.nf_function.specs.Units.{takes}
-use Rattle.nf_msgs.specs.declared.msg.Msg.{Msg}
-use Rattle.nf_msgs.specs.declared.note.Note.{Note}
-use Rattle.actor_net.specs.Network.{Network}
-use Rattle.actor_net.proofs.WeightLaws.{Each}
-use Rattle.net_world.specs.Fold.{times}
-use Rattle.net_world.specs.Input.{IsRising}
-use Rattle.net_world.specs.Log.{dones_in}
 use Rattle.net_world.proofs.FoundPackets.{one_by_one}
-use Rattle.net_world.proofs.NumberCounts.{numbered_times, times_filter}
-use Rattle.report_lines.specs.Lines.{by_number, output_in}
-use Rattle.strong_share.specs.declared.note.StrongNote.{StrongNote}
-use Rattle.strong_share.specs.declared.node.StrongNode.{StrongNode}
-use Rattle.strong_share.specs.Promises.{StrongCompleted, StrongPromises}
-use Rattle.strong_share.specs.Start.{StrongJob}
 use Rattle.strong_share.specs.Words as words
-use Rattle.strong_share.specs.Words.{entries, inner_notes, is_taken, is_taken_at, member_of, processed_of, queue_order}
-use Rattle.strong_share.proofs.Holding.{IsRight}
+use Rattle.strong_share.specs.Words.{is_taken, is_taken_at, member_of, queue_order}
 use Rattle.strong_share.proofs.Kept.{given_there, raised_of}
-use Rattle.strong_share.proofs.Lists.{filter_few}
 use Rattle.strong_share.proofs.LogLemmas.{entry_numbers}
-use Rattle.run_headline.specs.Headline.{is_of, outputs_to, packets_of, record_after}
-use Rattle.run_headline.specs.Subject.{Subject}
-use Rattle.run_headline.specs.Law.{done_in}
 use Rattle.run_headline.proofs.FoundNumbers.{IsFound, all_found, rising_from}
 use Rattle.run_headline.proofs.LineNumbers.{dones_times}
 use Rattle.run_headline.proofs.UnitOutputs.{outputs_noted}
-use Rattle.run_headline.specs.Strong.{in_turn, is_turn, outs_for}
-use Rattle.run_headline.specs.StrongLaw.{IsStrongRun, strong_subject}
+use Rattle.run_headline.specs.Strong.{is_turn, outs_for}
 use Rattle.run_headline.proofs.others.LoggedOutputs.{noted}
 use Rattle.run_headline.proofs.others.NumberedLines.{rising_sorted, some_here}
 use Rattle.run_headline.proofs.others.NumberedOutputs.{beside, each_found, firsts, sorted_beside}

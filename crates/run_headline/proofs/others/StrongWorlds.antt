@@ -1,20 +1,10 @@
 -- A completed run of strong sharing: the scene that its world shows, and what it keeps.
-use Rattle.std.proofs.Common.{◌≡◌, ℕ, true, List, sym, subst}
-use Rattle.nf_function.specs.Records.{Laws}
-use Rattle.nf_function.specs.Semantics.{Semantics}
-use Rattle.nf_msgs.specs.declared.msg.Msg.{Msg}
-use Rattle.actor_net.specs.Network.{Network, is_done}
-use Rattle.actor_net.proofs.WeightLaws.{Each}
-use Rattle.strong_share.specs.declared.note.StrongNote.{StrongNote}
-use Rattle.strong_share.specs.declared.node.StrongNode.{StrongNode}
-use Rattle.strong_share.specs.Promises.{StrongCompleted, StrongPromises}
-use Rattle.strong_share.specs.Start.{StrongJob}
+use Rattle.run_headline.proofs.Words.{◌≡◌, ℕ, true, List, sym, subst, Laws, Semantics, Msg, Network, Each, StrongNote, StrongNode, StrongCompleted}
+use Rattle.run_headline.proofs.Words.{StrongPromises, StrongJob, entries, IsRight, IsStrongRun}
+use Rattle.actor_net.specs.Network.{is_done}
 use Rattle.strong_share.specs.Tables.{node_ended}
-use Rattle.strong_share.specs.Words.{entries}
-use Rattle.strong_share.proofs.Holding.{IsRight}
 use Rattle.strong_share.proofs.Runs.{run_completed, run_promises}
 use Rattle.strong_share.proofs.Starts.{Reached, run_reached}
-use Rattle.run_headline.specs.StrongLaw.{IsStrongRun}
 
 module _ {R : Type 0} (F : Type 0) (f : Semantics R) (laws : Laws f) (names : List (List ℕ)) (job : StrongJob) (w : Network (StrongNode F R) Msg StrongNote)
     (is : IsStrongRun F f names job w) where

@@ -1,45 +1,28 @@
 -- The report of a completed update has the lines of its headline.
-use Rattle.std.proofs.Common.{◌≡◌, ℕ, Bool, true, Option, Some, None, List, [], ◌∷◌, ◌++◌, length, map, refl, sym, ap, ◌∙◌, subst, arith}
-use Rattle.std.specs.Prelude.{if◌then◌else◌, codes, filter, filter_map, option_to_list}
-use Rattle.std.specs.List.{AllByRecursion, flat_map, list_any}
+use Rattle.run_headline.proofs.Words.{◌≡◌, ℕ, Bool, true, Option, Some, None, List, [], ◌∷◌, ◌++◌, length, map, refl, sym, ap, ◌∙◌, subst, arith}
+use Rattle.run_headline.proofs.Words.{if◌then◌else◌, codes, filter, filter_map, option_to_list, AllByRecursion, flat_map, list_any, nat_cmp_total}
+use Rattle.run_headline.proofs.Words.{append_assoc, Packet, Output, Laws, Semantics, kept_after, unit_at, Msg, Note, same_unit_equiv, Network, Config, times}
+use Rattle.run_headline.proofs.Words.{IsRising, packet_numbered, packets, dones_in, numbered_times, times_filter, NamedInstance, by_number, by_unit}
+use Rattle.run_headline.proofs.Words.{named_line, named_records, out_lines, output_in, state_lines, tail_lines, TwoMsg, TwoNote, TwoNode, after_low, has_come}
+use Rattle.run_headline.proofs.Words.{trace, verdict_line, UpdateJob, items_of, Headline, ReportLines, is_of, outputs_to, outs_of, packets_of, record_after}
+use Rattle.run_headline.proofs.Words.{records_of, Subject, done_in, verdict_text, two_subject}
 use Rattle.std.specs.FinMap as finite
-use Rattle.std.proofs.lemmas.Cmp.{nat_cmp_total}
-use Rattle.std.proofs.lemmas.List.{append_assoc}
-use Rattle.flow_filter.specs.declared.packet.Packet.{Packet}
-use Rattle.nf_function.specs.declared.output.Output.{Output}
 use Rattle.nf_function.specs.declared.unit.Unit as units
-use Rattle.nf_function.specs.Records.{Laws}
-use Rattle.nf_function.specs.Semantics.{Semantics, kept_after, unit_at}
-use Rattle.nf_msgs.specs.declared.msg.Msg.{Msg}
-use Rattle.nf_msgs.specs.declared.note.Note.{Note}
-use Rattle.record_table.proofs.UnitOrder.{same_unit_equiv}
-use Rattle.actor_net.specs.Network.{Network}
-use Rattle.net_world.specs.declared.config.Config.{Config}
 use Rattle.net_world.specs.Fold as folds
-use Rattle.net_world.specs.Fold.{times}
-use Rattle.net_world.specs.Input.{IsRising, packet_numbered, packets}
-use Rattle.net_world.specs.Log.{dones_in}
-use Rattle.net_world.proofs.NumberCounts.{done_numbers, numbered_times, times_filter}
-use Rattle.report_lines.specs.Lines.{NamedInstance, by_number, by_unit, named_line, named_records, out_lines, output_in, state_lines, tail_lines}
-use Rattle.two_phase.specs.declared.msg.TwoMsg.{TwoMsg}
-use Rattle.two_phase.specs.declared.note.TwoNote.{TwoNote}
-use Rattle.two_phase.specs.declared.node.TwoNode.{TwoNode}
+use Rattle.net_world.proofs.NumberCounts.{done_numbers}
 use Rattle.two_phase.specs.declared.report.TwoHead.{TwoHead}
-use Rattle.two_phase.specs.Promises.{Published, UpdateCompleted, after_low, has_come, inner_notes, live_in, trace}
-use Rattle.two_phase.specs.Report.{head_lines, instance_lines, instance_under, named_instances, names, packet_lines, two_text, verdict_line}
-use Rattle.two_phase.specs.Start.{UpdateJob, config_of, items_of}
+use Rattle.two_phase.specs.Promises.{Published, UpdateCompleted, inner_notes, live_in}
+use Rattle.two_phase.specs.Report.{head_lines, instance_lines, instance_under, named_instances, names, packet_lines, two_text}
+use Rattle.two_phase.specs.Start.{config_of}
 use Rattle.two_phase.proofs.NumberedPackets.{all_numbered, numbered_fits, packets_are}
 use Rattle.two_phase.proofs.Theorem.{published}
-use Rattle.run_headline.specs.Headline.{Headline, ReportLines, is_of, outputs_to, outs_of, packets_of, record_after, records_of}
-use Rattle.run_headline.specs.Subject.{Subject}
-use Rattle.run_headline.specs.Law.{done_in}
 use Rattle.run_headline.proofs.FoundNumbers.{all_found, rising_from}
 use Rattle.run_headline.proofs.SortedParts.{part_stays, up_rising}
 use Rattle.run_headline.proofs.UnitOutputs.{IsThere, beside, folds_same, mine, numbers_noted, outputs_noted, outputs_same, part, some_rise, tests_agree}
 use Rattle.run_headline.proofs.LineNumbers.{any_own, done_text, dones_times, has_some, one_kept}
 use Rattle.run_headline.proofs.UnitLines.{each_line, kept_each, sorted_own}
-use Rattle.run_headline.specs.Published.{HasPublishedHeadline, lines_text, verdict_text}
-use Rattle.run_headline.specs.PublishedLaw.{IsTwoRun, PublishedLaw, two_subject}
+use Rattle.run_headline.specs.Published.{HasPublishedHeadline, lines_text}
+use Rattle.run_headline.specs.PublishedLaw.{IsTwoRun, PublishedLaw}
 use Rattle.run_headline.proofs.others.LoggedOutputs.{noted}
 use Rattle.run_headline.proofs.others.NumberedLines.{rising_sorted}
 use Rattle.run_headline.proofs.others.TwoNodes.{AreFour, four_nodes}

@@ -1,21 +1,12 @@
 -- The nodes of an update's world: a switch, a controller and two instances, as at the start.
-use Rattle.std.proofs.Common.{◌≡◌, ◌≢◌, ℕ, zero, suc, ◌<◌, true, false, List, [], ◌∷◌, length, get_or, refl, sym, ap, ◌∙◌, arith}
-use Rattle.std.specs.Prelude.{◌==◌}
-use Rattle.std.specs.declared.alloc.Global.{Global}
-use Rattle.std.proofs.lemmas.Bool.Decides.{Decides-eqb}
-use Rattle.nf_function.specs.Semantics.{Semantics}
-use Rattle.instance_worker.specs.declared.instance.Instance.{Instance as InstanceState}
-use Rattle.actor_net.specs.declared.choice.Choice.{Choice}
-use Rattle.actor_net.specs.Network.{Network, IsRun, run, world_next}
+use Rattle.run_headline.proofs.Words.{◌≡◌, ◌≢◌, ℕ, zero, suc, ◌<◌, true, false, List, [], ◌∷◌, length, get_or, refl, sym, ap, ◌∙◌, arith, ◌==◌, Global}
+use Rattle.run_headline.proofs.Words.{Decides-eqb, Semantics, InstanceState, Choice, Network, IsRun, run, world_next, run_induction, taken_outcome, TwoMsg}
+use Rattle.run_headline.proofs.Words.{TwoNote, TwoNode, UpdateJob}
 use Rattle.actor_net.proofs.OpeningWorlds.{opening_world}
-use Rattle.actor_net.proofs.RunInduction.{NextChoice, run_induction}
-use Rattle.actor_net.proofs.StepOutcome.{taken_outcome}
-use Rattle.two_phase.specs.declared.msg.TwoMsg.{TwoMsg}
-use Rattle.two_phase.specs.declared.note.TwoNote.{TwoNote}
-use Rattle.two_phase.specs.declared.node.TwoNode.{TwoNode}
+use Rattle.actor_net.proofs.RunInduction.{NextChoice}
 use Rattle.two_phase.specs.declared.node.TwoNode.TheVariants.{Switch, Ctrl as Controller, Instance}
 use Rattle.two_phase.specs.Parts.{SwitchState, ControllerState}
-use Rattle.two_phase.specs.Start.{UpdateJob, first_nodes, input_at, two_start}
+use Rattle.two_phase.specs.Start.{first_nodes, input_at, two_start}
 use Rattle.two_phase.specs.Tables.{node_ready, node_step}
 
 -- which part the node with a number is

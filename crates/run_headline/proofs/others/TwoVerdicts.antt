@@ -1,26 +1,14 @@
 -- The line of what an update came to: done, where a packet that is to be moved came after the low rule; such a packet is one of the capture.
-use Rattle.std.proofs.Common.{◌≡◌, ℕ, zero, suc, ◌+◌, Bool, true, false, ◌||◌, List, [], ◌∷◌, ◌++◌, map, drop, refl, sym, ap, ◌∙◌, append-nil}
-use Rattle.std.specs.Prelude.{if◌then◌else◌}
-use Rattle.std.specs.List.{flat_map, list_any, position_or_len}
-use Rattle.std.proofs.Math.Bool.{or-true}
+use Rattle.run_headline.proofs.Words.{◌≡◌, ℕ, zero, suc, ◌+◌, Bool, true, false, ◌||◌, List, [], ◌∷◌, ◌++◌, map, drop, refl, sym, ap, ◌∙◌, append-nil}
+use Rattle.run_headline.proofs.Words.{if◌then◌else◌, flat_map, list_any, position_or_len, or-true, Packet, matches, flow_of, Semantics, Each, packet_numbered}
+use Rattle.run_headline.proofs.Words.{arrivals_in, TwoNote, after_low, has_come, trace, verdict_line, UpdateJob, items_of, verdict_text, two_subject}
 use Rattle.std.proofs.lemmas.List.Elements.{filter_map-append}
 use Rattle.std.proofs.lemmas.List.Folds.{list_any-append}
-use Rattle.flow_filter.specs.declared.packet.Packet.{Packet}
-use Rattle.flow_filter.specs.Filter.{matches}
-use Rattle.flow_filter.specs.Flow.{flow_of}
-use Rattle.nf_function.specs.Semantics.{Semantics}
-use Rattle.actor_net.proofs.WeightLaws.{Each}
 use Rattle.net_world.specs.Fold.{IsFront}
-use Rattle.net_world.specs.Input.{packet_numbered}
-use Rattle.net_world.specs.Log.{arrivals_in}
 use Rattle.net_world.proofs.LogLemmas.{arrived-append}
-use Rattle.two_phase.specs.declared.note.TwoNote.{TwoNote}
 use Rattle.two_phase.specs.declared.note.TwoNote.TheVariants.{Inner, Low, High, Done, NoPacket}
-use Rattle.two_phase.specs.Promises.{after_low, has_come, inner_note, inner_notes, is_low, is_matched, trace, verdicts}
-use Rattle.two_phase.specs.Report.{verdict_line}
-use Rattle.two_phase.specs.Start.{UpdateJob, items_of}
-use Rattle.run_headline.specs.Published.{is_moved, verdict_text}
-use Rattle.run_headline.specs.PublishedLaw.{two_subject}
+use Rattle.two_phase.specs.Promises.{inner_note, inner_notes, is_low, is_matched, verdicts}
+use Rattle.run_headline.specs.Published.{is_moved}
 
 -- the lines of a log are those of its verdicts
 verdict_lines : (log : List TwoNote) → flat_map verdict_line log ≡ flat_map verdict_line (verdicts log)

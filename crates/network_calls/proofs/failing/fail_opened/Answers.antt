@@ -1,14 +1,8 @@
 -- What is left is that of the words, the script and the capture, where the network before its start is theirs.
-use Rattle.std.proofs.Common.{◌≡◌, ◌++◌, ◌==◌, Err, List, ap, sym, subst, ◌∙◌}
-use Rattle.std.specs.Prelude.{All, IsSome, find}
-use Rattle.flow_filter.specs.declared.packet.Packet.{Packet}
-use Rattle.trace_reader.specs.Records.{AreNumbered}
-use Rattle.command_words.specs.Requests.{FailAsked, NetworkAsked}
-use Rattle.net_world.specs.Input.{packets}
-use Rattle.net_world.specs.Start.{started_with}
-use Rattle.run_headline.specs.standby_failover.specs.Causes.{first_of, world_after}
+use Rattle.network_calls.proofs.Words.{◌≡◌, ◌++◌, ◌==◌, Err, List, ap, sym, subst, ◌∙◌, All, find, Packet, AreNumbered, FailAsked, NetworkAsked, packets}
+use Rattle.network_calls.proofs.Words.{started_with, first_of, world_after, made_with}
+use Rattle.std.specs.Prelude.{IsSome}
 use Rattle.network_calls.proofs.FailLemmas.{failover_is, failover_refused}
-use Rattle.network_calls.specs.RunSteps.{made_with}
 use Rattle.network_calls.proofs.failing.fail_opened.Given.{Over}
 use Rattle.network_calls.proofs.failing.fail_opened.Goals as goal
 use Rattle.network_calls.proofs.failing.fail_opened.Goals.{In_ok-trace}

@@ -1,11 +1,5 @@
 -- What is left is that of the words, the script and the capture.
-use Rattle.std.proofs.Common.{ap, sym, subst, ◌∙◌}
-use Rattle.nf_function.specs.declared.kind.Kind.{Kind}
-use Rattle.trace_reader.specs.Records.{AreNumbered}
-use Rattle.command_words.specs.RequestViews.{network_view}
-use Rattle.net_world.specs.Input.{IsInput, packets}
-use Rattle.call_files.specs.run_input.proofs.SaidCommands.{packets_in}
-use Rattle.call_files.specs.Phases.{scenario_of}
+use Rattle.network_calls.proofs.Words.{ap, sym, subst, ◌∙◌, Kind, AreNumbered, network_view, IsInput, packets, packets_in, scenario_of}
 use Rattle.network_calls.proofs.failing.fail_told.Goals as goal
 
 pub fail_opened-requires-clause-input : goal.fail_opened-requires-clause-input

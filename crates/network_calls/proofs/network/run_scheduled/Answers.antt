@@ -1,9 +1,5 @@
 -- The function that the words name is the one that runs, by a schedule.
-use Rattle.std.proofs.Common.{Some}
-use Rattle.command_words.specs.RequestViews.{network_view}
-use Rattle.network_calls.specs.NetworkRuns.{IsRunOf, run_given}
-use Rattle.call_files.specs.Phases.{gives, scenario_of}
-use Rattle.function_kinds.proofs.FunctionLemmas.{ok_of_kind}
+use Rattle.network_calls.proofs.Words.{Some, network_view, IsRunOf, run_given, gives, scenario_of, ok_of_kind}
 use Rattle.network_calls.proofs.network.run_scheduled.Goals as goal
 
 pub returns : goal.returns

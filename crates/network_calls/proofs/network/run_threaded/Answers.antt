@@ -1,14 +1,7 @@
 -- The function that the words name is the one that runs, by threads.
-use Rattle.std.proofs.Common.{◌≡◌, None, Result, sym, subst}
+use Rattle.network_calls.proofs.Words.{◌≡◌, None, Result, sym, subst, Kind, NetworkAsked, network_view, OfKind, HasRun, IsRunOf, run_given, Scenario, Made}
+use Rattle.network_calls.proofs.Words.{scenario_of, gives}
 use Rattle.std.specs.Prelude.{IfOk}
-use Rattle.nf_function.specs.declared.kind.Kind.{Kind}
-use Rattle.command_words.specs.Requests.{NetworkAsked}
-use Rattle.command_words.specs.RequestViews.{network_view}
-use Rattle.function_kinds.specs.Functions.{OfKind}
-use Rattle.network_calls.specs.NetworkRuns.{HasRun, IsRunOf, run_given}
-use Rattle.call_files.specs.Scenarios.{Scenario}
-use Rattle.call_files.specs.declared.results.Made.{Made}
-use Rattle.call_files.specs.Phases.{scenario_of, gives}
 use Rattle.network_calls.proofs.network.run_threaded.Goals as goal
 
 -- what is said for the function of one kind is said for that of the same kind

@@ -1,6 +1,5 @@
 -- The function that the words name is the one that runs, as it is told.
-use Rattle.command_words.specs.RequestViews.{network_view}
-use Rattle.call_files.specs.Phases.{scenario_of}
+use Rattle.network_calls.proofs.Words.{network_view, scenario_of}
 use Rattle.network_calls.proofs.RunLemmas.{told_kind}
 use Rattle.network_calls.proofs.network.run_told.Goals as goal
 

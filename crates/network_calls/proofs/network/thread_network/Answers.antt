@@ -1,11 +1,5 @@
 -- The run of threads is that of the words, the script and the capture.
-use Rattle.std.proofs.Common.{◌≡◌, None, refl, subst, sym}
-use Rattle.std.proofs.lemmas.Result.{IfOk-weaker}
-use Rattle.command_words.specs.RequestViews.{network_view}
-use Rattle.call_files.specs.Phases.{gives, scenario_of}
-use Rattle.run_headline.specs.run_report.specs.Lines.{report_text}
-use Rattle.network_calls.specs.NetworkRuns.{IsRunOf, run_given}
-use Rattle.network_calls.specs.RunSteps.{made_with}
+use Rattle.network_calls.proofs.Words.{◌≡◌, None, refl, subst, sym, IfOk-weaker, network_view, gives, scenario_of, report_text, IsRunOf, run_given, made_with}
 use Rattle.network_calls.proofs.RunLemmas.{run_of}
 use Rattle.network_calls.proofs.network.thread_network.Goals as goal
 

@@ -1,10 +1,5 @@
 -- The function that the words name is the one that runs, over what was read.
-use Rattle.std.proofs.Common.{refl}
-use Rattle.command_words.specs.RequestViews.{strong_view}
-use Rattle.call_files.specs.run_input.proofs.SteeredPackets.{are_steered}
-use Rattle.call_files.specs.Phases.{reports}
-use Rattle.network_calls.specs.StrongRuns.{IsSharingOf, sharing_scene}
-use Rattle.function_kinds.proofs.FunctionLemmas.{ok_of_kind}
+use Rattle.network_calls.proofs.Words.{refl, strong_view, are_steered, reports, IsSharingOf, sharing_scene, ok_of_kind}
 use Rattle.network_calls.proofs.CapturedJobs.{can_share}
 use Rattle.network_calls.proofs.sharing.run_sharing.Goals as goal
 

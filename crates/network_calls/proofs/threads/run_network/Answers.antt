@@ -1,8 +1,5 @@
 -- The choices of the workers lead from the start to a world in which nothing is left to do.
-use Rattle.std.proofs.Common.{subst}
-use Rattle.run_headline.specs.nf_net.specs.proof_outlines.proofs.joined.Setting.{setting_of}
-use Rattle.run_headline.specs.nf_net.proofs.length.ShortRuns.{short_runs}
-use Rattle.net_world.specs.Runs.{LeadsTo}
+use Rattle.network_calls.proofs.Words.{subst, setting_of, short_runs, LeadsTo}
 use Rattle.run_headline.specs.nf_net.proofs.EveryRun.{keeps_all}
 use Rattle.run_headline.specs.nf_net.proofs.JudgedRuns.{verdicts}
 use Rattle.run_headline.specs.nf_net.proofs.StandbyRuns.{standbys}

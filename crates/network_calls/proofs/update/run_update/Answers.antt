@@ -1,10 +1,5 @@
 -- The function that the words name is the one that runs, over what was read.
-use Rattle.std.proofs.Common.{refl}
-use Rattle.command_words.specs.RequestViews.{published_view}
-use Rattle.call_files.specs.run_input.proofs.SteeredPackets.{are_steered}
-use Rattle.call_files.specs.Phases.{reports}
-use Rattle.network_calls.specs.UpdateRuns.{IsUpdateOf, scene_of}
-use Rattle.function_kinds.proofs.FunctionLemmas.{ok_of_kind}
+use Rattle.network_calls.proofs.Words.{refl, published_view, are_steered, reports, IsUpdateOf, scene_of, ok_of_kind}
 use Rattle.network_calls.proofs.CapturedJobs.{is_update}
 use Rattle.network_calls.proofs.update.run_update.Goals as goal
 

@@ -1,7 +1,6 @@
 -- What `take_while` gives is counted.
-use Rattle.std.proofs.Common.{◌∙◌, rules, eqb}
-use Rattle.std.proofs.lemmas.Iterator.{YieldsList-from_slice}
-use Rattle.std.proofs.lemmas.Iterator.Consumers.{count_from_yields_List, YieldsList-at}
+use Rattle.op_script.proofs.Words.{◌∙◌, rules, eqb, YieldsList-from_slice, YieldsList-at}
+use Rattle.std.proofs.lemmas.Iterator.Consumers.{count_from_yields_List}
 use Rattle.std.proofs.lemmas.Iterator.Search.{YieldsList-from_take_while}
 use Rattle.std.proofs.lemmas.List.Folds.{length-prefix_len}
 use Rattle.op_script.proofs.LinesByPoint.{prefix_len-map}

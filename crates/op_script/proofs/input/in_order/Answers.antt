@@ -1,10 +1,7 @@
 -- The references are those of all lines, sorted by their points.
-use Rattle.std.proofs.Common.{◌≡◌, ◌<◌, ◌^◌, ℕ, ◌∙◌, ap, map, refl, rules, subst}
-use Rattle.std.proofs.lemmas.Iterator.{YieldsList-from_slice, items_from_drains}
+use Rattle.op_script.proofs.Words.{◌≡◌, ◌<◌, ◌^◌, ℕ, ◌∙◌, ap, map, refl, rules, subst, YieldsList-from_slice, Line, Settle, AreLinesFrom}
+use Rattle.std.proofs.lemmas.Iterator.{items_from_drains}
 use Rattle.std.proofs.lemmas.List.Sorted.{IsNonDecreasingBy-from_sort_by_key, answers_always}
-use Rattle.op_script.specs.declared.script.Line.{Line}
-use Rattle.op_script.specs.declared.script.What.TheVariants.{Settle}
-use Rattle.op_script.specs.Items.{AreLinesFrom}
 use Rattle.op_script.proofs.LinesByPoint.{sorted_ahead}
 use Rattle.op_script.proofs.input.in_order.Goals as goal
 

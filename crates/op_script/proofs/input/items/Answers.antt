@@ -1,10 +1,5 @@
 -- The packets and the lines before them, then the lines that are left, and the end.
-use Rattle.std.proofs.Common.{◌≡◌, ◌∙◌, List, ap, length, subst}
-use Rattle.std.proofs.lemmas.List.{length-map}
-use Rattle.nf_msgs.specs.declared.msg.Msg.{Msg}
-use Rattle.nf_msgs.specs.declared.msg.Msg.TheVariants.{InPacket}
-use Rattle.op_script.specs.declared.script.Line.{Line}
-use Rattle.op_script.specs.Items.{items}
+use Rattle.op_script.proofs.Words.{◌≡◌, ◌∙◌, List, ap, length, subst, length-map, Msg, InPacket, Line, items}
 use Rattle.op_script.proofs.ItemsSoFar.{all_items}
 use Rattle.op_script.proofs.input.items.Goals as goal
 

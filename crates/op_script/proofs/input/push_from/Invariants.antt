@@ -1,7 +1,6 @@
 -- The lines at the point that were put so far.
-use Rattle.std.proofs.Common.{◌≡◌, ◌++◌, take}
+use Rattle.op_script.proofs.Words.{◌≡◌, ◌++◌, take, said_where}
 use Rattle.std.specs.Prelude.{nat_le}
-use Rattle.op_script.specs.Items.{said_where}
 use Rattle.op_script.proofs.input.push_from.Given as goal
 
 -- the lines so far are written

@@ -1,6 +1,5 @@
 -- The lines that were put so far.
-use Rattle.std.proofs.Common.{◌≡◌, ◌++◌, map, take}
-use Rattle.op_script.specs.Items.{msg_of}
+use Rattle.op_script.proofs.Words.{◌≡◌, ◌++◌, map, take, msg_of}
 use Rattle.op_script.proofs.input.push_lines.Given as goal
 
 -- the lines so far are put

@@ -1,7 +1,6 @@
 -- All packets stand in their places or are late, each after the lines at its point; or no line stands before the last of them.
-use Rattle.std.proofs.Common.{rules, ◌++◌, ◌∙◌, List, ap, length, sym}
+use Rattle.op_script.proofs.Words.{rules, ◌++◌, ◌∙◌, List, ap, length, sym, Msg}
 use Rattle.std.proofs.lemmas.List.{length-set, take_rest}
-use Rattle.nf_msgs.specs.declared.msg.Msg.{Msg}
 use Rattle.op_script.proofs.LinesByPoint.{still_short, ahead_next, said_first}
 use Rattle.op_script.proofs.ItemsSoFar.{all_written, late_more, so_far_start}
 use Rattle.op_script.proofs.PacketLists.{all_after}

@@ -1,6 +1,5 @@
 -- What stands in its place, what is late, and what the packets and lines that are left still give.
-use Rattle.std.proofs.Common.{◌≡◌, ◌<◌, ◌++◌, ◌*◌, ◌^◌, map, take, drop, length}
-use Rattle.op_script.specs.Items.{AreLinesFrom}
+use Rattle.op_script.proofs.Words.{◌≡◌, ◌<◌, ◌++◌, ◌*◌, ◌^◌, map, take, drop, length, AreLinesFrom}
 use Rattle.op_script.proofs.ItemsSoFar.{SoFar}
 use Rattle.op_script.proofs.input.with_lines.Given as goal
 

@@ -1,6 +1,5 @@
 -- The names that were written so far, each after a comma.
-use Rattle.std.proofs.Common.{◌≡◌, ◌++◌, take, true}
-use Rattle.flow_filter.specs.FilterText.{after_commas}
+use Rattle.op_script.proofs.Words.{◌≡◌, ◌++◌, take, true, after_commas}
 use Rattle.op_script.proofs.printing.print_more.Given as goal
 
 -- the names so far are written

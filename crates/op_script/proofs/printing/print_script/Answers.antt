@@ -1,14 +1,7 @@
 -- Each loop writes a line more, and together the loops write them all.
-use Rattle.std.proofs.Common.{◌≡◌, ℕ, ◌≤◌, ◌++◌, [], List, length, map, take, sym, ◌∙◌, append-nil, false, Ok}
-use Rattle.std.specs.List.{concat, AllByRecursion}
-use Rattle.std.proofs.lemmas.List.{take_all}
-use Rattle.flow_filter.specs.Name.{has_twice}
-use Rattle.nf_function.specs.declared.kind.Kind.{Kind}
-use Rattle.op_script.specs.declared.script.Script.{Script}
-use Rattle.op_script.specs.Statements.{Word}
-use Rattle.op_script.specs.Printing.{line_text, route_words, line_words, script_text, IsRoute, IsLine, IsScript, SplitsNone}
-use Rattle.op_script.specs.Reading.{line_view, script_view, script_of}
-use Rattle.op_script.specs.ReadingSteps.{route_view}
+use Rattle.op_script.proofs.Words.{◌≡◌, ℕ, ◌≤◌, ◌++◌, [], List, length, map, take, sym, ◌∙◌, append-nil, false, Ok, concat, AllByRecursion, take_all}
+use Rattle.op_script.proofs.Words.{has_twice, Kind, Script, Word, line_text, route_words, line_words, script_text, IsRoute, IsLine, IsScript, SplitsNone}
+use Rattle.op_script.proofs.Words.{line_view, script_view, script_of, route_view}
 use Rattle.op_script.proofs.PrintedScripts.{IsNamed, script_again}
 use Rattle.op_script.proofs.WrittenTexts.{lines_more, all_written, at_item, fits_more}
 use Rattle.op_script.proofs.printing.print_script.Goals as goal

@@ -1,7 +1,5 @@
 -- The routes and lines that were written so far.
-use Rattle.std.proofs.Common.{◌≡◌, ◌++◌, take, map}
-use Rattle.std.specs.List.{concat, AllByRecursion}
-use Rattle.op_script.specs.Printing.{line_text, route_words, line_words}
+use Rattle.op_script.proofs.Words.{◌≡◌, ◌++◌, take, map, concat, AllByRecursion, line_text, route_words, line_words}
 use Rattle.op_script.proofs.PrintedScripts.{IsNamed}
 use Rattle.op_script.proofs.printing.print_script.Given as goal
 

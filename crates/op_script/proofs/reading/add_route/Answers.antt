@@ -1,7 +1,6 @@
 -- One route more, whose filter is in range; or no more, where memory is out.
-use Rattle.std.proofs.Common.{ℕ, All, sym, subst}
-use Rattle.flow_filter.specs.declared.filter.Filter.{Filter}
-use Rattle.flow_filter.specs.Filter.{IsFilter}
+use Rattle.op_script.proofs.Words.{ℕ, sym, subst, Filter, IsFilter}
+use Rattle.std.proofs.Common.{All}
 use Rattle.op_script.proofs.OneMore.{one_more}
 use Rattle.op_script.proofs.reading.add_route.Goals as goal
 

@@ -1,8 +1,6 @@
 -- The test is true exactly where the bytes are UTF-8.
-use Rattle.std.proofs.Common.{sym, inl, inr}
-use Rattle.std.proofs.lemmas.Str.{is_utf8-from_IsUtf8, IsUtf8-from_is_utf8}
-use Rattle.std.proofs.lemmas.Bool.{cases_Bool}
-use Rattle.std.specs.Str.{is_utf8}
+use Rattle.op_script.proofs.Words.{sym, inl, inr, is_utf8-from_IsUtf8, cases_Bool, is_utf8}
+use Rattle.std.proofs.lemmas.Str.{IsUtf8-from_is_utf8}
 use Rattle.op_script.proofs.reading.is_utf8.Goals as goal
 
 pub returns-in-Ok : goal.returns-in-Ok

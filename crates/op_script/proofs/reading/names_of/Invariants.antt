@@ -1,9 +1,6 @@
 -- The names that were read so far, and the text that is left.
-use Rattle.std.proofs.Common.{◌≡◌, ◌==◌, ◌++◌, Some, None, cond, option_map}
-use Rattle.std.specs.List.{slice_split, list_all}
-use Rattle.flow_filter.specs.Name.{is_name}
-use Rattle.basics.specs.Parsing.{remaining_pieces}
-use Rattle.basics.proofs.BytesLeft.{bytes_left}
+use Rattle.op_script.proofs.Words.{◌≡◌, ◌++◌, Some, None, cond, option_map, slice_split, list_all, is_name, remaining_pieces, bytes_left}
+use Rattle.std.proofs.Common.{◌==◌}
 use Rattle.op_script.proofs.reading.names_of.Given as goal
 
 -- the names so far and the pieces that are left give what the whole list gives

@@ -1,10 +1,6 @@
 -- What the lines so far say, and the lines that are left.
-use Rattle.std.proofs.Common.{◌≡◌, ◌==◌, ◌+◌, ◌≤◌, option_map}
-use Rattle.std.specs.List.{slice_split}
-use Rattle.basics.specs.Parsing.{remaining_pieces}
-use Rattle.op_script.specs.Reading.{with_lines}
-use Rattle.op_script.specs.ReadingSteps.{start}
-use Rattle.basics.proofs.BytesLeft.{bytes_left}
+use Rattle.op_script.proofs.Words.{◌≡◌, ◌+◌, ◌≤◌, option_map, slice_split, remaining_pieces, with_lines, start, bytes_left}
+use Rattle.std.proofs.Common.{◌==◌}
 use Rattle.op_script.proofs.reading.read_lines.Given as goal
 
 -- what is left, from here on, gives what the whole script gives

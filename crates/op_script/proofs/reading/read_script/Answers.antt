@@ -1,8 +1,5 @@
 -- What the lines say breaks no rule, and splits no unit.
-use Rattle.std.proofs.Common.{sym, subst}
-use Rattle.std.specs.Prelude.{◌==◌}
-use Rattle.std.specs.List.{slice_split}
-use Rattle.op_script.specs.Printing.{IsScript, SplitsNone}
+use Rattle.op_script.proofs.Words.{sym, subst, ◌==◌, slice_split, IsScript, SplitsNone}
 use Rattle.op_script.proofs.ParsedScripts.{lines_right, lines_whole}
 use Rattle.op_script.proofs.reading.read_script.Goals as goal
 

@@ -1,8 +1,7 @@
 -- The parts between blanks that aren't empty.
-use Rattle.std.proofs.Common.{eqb, not, length, rules}
-use Rattle.std.proofs.lemmas.Iterator.Consumers.{map_from_collect, YieldsList-from_filter, YieldsList-at}
+use Rattle.op_script.proofs.Words.{eqb, not, length, rules, YieldsList-at, is_blank}
+use Rattle.std.proofs.lemmas.Iterator.Consumers.{map_from_collect, YieldsList-from_filter}
 use Rattle.std.proofs.lemmas.Iterator.Splits.{YieldsList-from_slice_split}
-use Rattle.op_script.specs.WordSteps.{is_blank}
 use Rattle.op_script.proofs.statement.words.Goals as goal
 
 pub returns : goal.returns

@@ -1,6 +1,5 @@
 -- The report was written, whole or in part.
-use Rattle.command_words.specs.Requests.{asks_audit}
-use Rattle.command_words.specs.RequestViews.{network_view}
+use Rattle.opennf_calls.proofs.Words.{asks_audit, network_view}
 use Rattle.opennf_calls.proofs.WrittenRuns.{audit_writes, run_report_performs}
 use Rattle.opennf_calls.proofs.audit.audit.Goals as goal
 

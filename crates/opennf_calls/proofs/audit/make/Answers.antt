@@ -1,10 +1,5 @@
 -- What is made is what the command gives for its inputs, or the status has its row.
-use Rattle.std.proofs.Common.{rules, Ok, Err}
-use Rattle.std.proofs.lemmas.Result.{err_from_is_err_and}
-use Rattle.command_words.specs.Requests.{asks_audit}
-use Rattle.command_words.specs.RequestViews.{network_view}
-use Rattle.call_files.specs.Phases.{scenario_of}
-use Rattle.call_files.proofs.InputRows.{still_named}
+use Rattle.opennf_calls.proofs.Words.{rules, Ok, Err, err_from_is_err_and, asks_audit, network_view, scenario_of, still_named}
 use Rattle.opennf_calls.proofs.AuditRows.{audits_journal, told_row}
 use Rattle.opennf_calls.proofs.JournalRows.{counted, journal_row, journal_told, only}
 use Rattle.opennf_calls.proofs.RunRows.{audit_reads, fails_row}

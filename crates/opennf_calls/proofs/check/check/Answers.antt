@@ -1,12 +1,7 @@
 -- What the command did is known from what it read and what it wrote.
-use Rattle.std.proofs.Common.{ℕ, List, [], refl, subst}
-use Rattle.nf_io.specs.declared.outside.Role.TheVariants.{Script}
-use Rattle.command_words.specs.Requests.{asks_check}
-use Rattle.command_words.specs.RequestViews.{check_view}
-use Rattle.call_files.specs.Writing.{WroteReport}
+use Rattle.opennf_calls.proofs.Words.{ℕ, List, [], refl, subst, Script, asks_check, check_view, WroteReport, one_read}
 use Rattle.opennf_calls.proofs.RowLemmas.{ends, one_file-check, report_alone}
 use Rattle.opennf_calls.proofs.WrittenRuns.{report_performs}
-use Rattle.call_files.proofs.ReadRoles.{one_read}
 use Rattle.opennf_calls.proofs.check.check.Goals as goal
 
 pub returns-in-Err : goal.returns-in-Err

@@ -1,16 +1,9 @@
 -- The text is the one that the command has for the script, or the status has its row.
-use Rattle.std.proofs.Common.{rules, ◌≡◌, [], Some, ap, sym, refl, subst}
-use Rattle.nf_io.specs.declared.outside.Role.{Role}
-use Rattle.nf_io.specs.declared.outside.Role.TheVariants.{Script}
-use Rattle.op_script.specs.Reading.{script_of}
-use Rattle.command_words.specs.Requests.{asks_check}
-use Rattle.command_words.specs.Values.{names_of}
-use Rattle.command_words.specs.RequestViews.{check_view}
-use Rattle.call_files.specs.Refusals.{script_refusal}
-use Rattle.call_files.specs.Phases.{ScriptFails, ScriptRead}
+use Rattle.opennf_calls.proofs.Words.{rules, ◌≡◌, [], Some, ap, sym, refl, subst, Role, Script, script_of, asks_check, names_of, check_view, script_refusal}
+use Rattle.opennf_calls.proofs.Words.{ScriptFails, one_read}
+use Rattle.call_files.specs.Phases.{ScriptRead}
 use Rattle.opennf_calls.proofs.CheckRows.{check_fails}
 use Rattle.opennf_calls.proofs.RowLemmas.{input_alone, one_file-check}
-use Rattle.call_files.proofs.ReadRoles.{one_read}
 use Rattle.opennf_calls.proofs.check.read_canonical.Goals as goal
 
 pub returns-in-Err-clause-row : goal.returns-in-Err-clause-row

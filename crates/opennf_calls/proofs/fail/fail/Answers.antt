@@ -1,6 +1,5 @@
 -- The report was written, whole or in part.
-use Rattle.command_words.specs.Requests.{asks_fail}
-use Rattle.command_words.specs.RequestViews.{fail_view}
+use Rattle.opennf_calls.proofs.Words.{asks_fail, fail_view}
 use Rattle.opennf_calls.proofs.WrittenRuns.{fail_writes, report_performs}
 use Rattle.opennf_calls.proofs.fail.fail.Goals as goal
 

@@ -1,11 +1,6 @@
 -- What is made is what the command gives for its inputs, or the status has its row.
-use Rattle.std.proofs.Common.{rules, Ok, Err}
-use Rattle.std.proofs.lemmas.Result.{err_from_is_err_and}
-use Rattle.command_words.specs.Requests.{asks_fail}
-use Rattle.command_words.specs.RequestViews.{fail_view}
-use Rattle.call_files.specs.Phases.{scenario_of}
+use Rattle.opennf_calls.proofs.Words.{rules, Ok, Err, err_from_is_err_and, asks_fail, fail_view, scenario_of, still_named}
 use Rattle.opennf_calls.proofs.FailRows.{failed_row, fails_journal}
-use Rattle.call_files.proofs.InputRows.{still_named}
 use Rattle.opennf_calls.proofs.JournalRows.{counted, journal_row, journal_told, only}
 use Rattle.opennf_calls.proofs.RunRows.{fail_reads, fails_row}
 use Rattle.opennf_calls.proofs.fail.make.Goals as goal

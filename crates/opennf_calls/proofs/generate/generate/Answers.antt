@@ -1,6 +1,5 @@
 -- What the command did is known from the capture that it wrote and the line after it.
-use Rattle.std.proofs.Common.{rules}
-use Rattle.command_words.specs.RequestViews.{gen_view}
+use Rattle.opennf_calls.proofs.Words.{rules, gen_view}
 use Rattle.opennf_calls.proofs.MakingLemmas.{gen_ended}
 use Rattle.opennf_calls.proofs.generate.generate.Goals as goal
 

@@ -1,8 +1,6 @@
 -- What is known of the outside once the sink over it is gone.
-use Rattle.std.proofs.Common.{rules}
-use Rattle.std.proofs.lemmas.Result.{err_from_is_err_and}
+use Rattle.opennf_calls.proofs.Words.{rules, err_from_is_err_and, gen_view}
 use Rattle.nf_io.proofs.RolesAfterLoan.{written_left, written_name, written_others}
-use Rattle.command_words.specs.RequestViews.{gen_view}
 use Rattle.opennf_calls.proofs.MakingLemmas.{making_performs}
 use Rattle.opennf_calls.proofs.generate.write_capture.Goals as goal
 

@@ -1,8 +1,5 @@
 -- What was made was written, or nothing was.
-use Rattle.std.proofs.Common.{refl}
-use Rattle.nf_io.specs.declared.outside.Role.TheVariants.{Trace}
-use Rattle.command_words.specs.Requests.{asks_published}
-use Rattle.command_words.specs.RequestViews.{published_view}
+use Rattle.opennf_calls.proofs.Words.{refl, Trace, asks_published, published_view}
 use Rattle.opennf_calls.proofs.RowLemmas.{report_alone}
 use Rattle.opennf_calls.proofs.CaptureRows.{update_reads}
 use Rattle.opennf_calls.proofs.WrittenRuns.{report_performs}

@@ -1,6 +1,5 @@
 -- What was made was written, or nothing was.
-use Rattle.command_words.specs.Requests.{asks_run}
-use Rattle.command_words.specs.RequestViews.{network_view}
+use Rattle.opennf_calls.proofs.Words.{asks_run, network_view}
 use Rattle.opennf_calls.proofs.WrittenRuns.{run_performs, run_writes}
 use Rattle.opennf_calls.proofs.run.run.Goals as goal
 

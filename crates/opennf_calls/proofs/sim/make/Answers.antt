@@ -1,8 +1,5 @@
 -- What is made is what the command gives for its inputs, or the status has its row.
-use Rattle.std.proofs.lemmas.Result.{err_from_is_err_and}
-use Rattle.command_words.specs.Requests.{asks_sim}
-use Rattle.command_words.specs.RequestViews.{network_view}
-use Rattle.call_files.specs.Phases.{scenario_of, gives}
+use Rattle.opennf_calls.proofs.Words.{err_from_is_err_and, asks_sim, network_view, scenario_of, gives}
 use Rattle.opennf_calls.proofs.RunRows.{fails_row, sim_reads, sim_results}
 use Rattle.opennf_calls.proofs.sim.make.Goals as goal
 

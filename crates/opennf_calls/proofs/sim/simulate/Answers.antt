@@ -1,6 +1,5 @@
 -- What was made was written, or nothing was.
-use Rattle.command_words.specs.Requests.{asks_sim}
-use Rattle.command_words.specs.RequestViews.{network_view}
+use Rattle.opennf_calls.proofs.Words.{asks_sim, network_view}
 use Rattle.opennf_calls.proofs.WrittenRuns.{run_performs, sim_writes}
 use Rattle.opennf_calls.proofs.sim.simulate.Goals as goal
 

@@ -1,8 +1,5 @@
 -- What is made is what the command gives for its capture, or the status has its row.
-use Rattle.std.proofs.Common.{refl}
-use Rattle.std.proofs.lemmas.Result.{err_from_is_err_and}
-use Rattle.command_words.specs.Requests.{asks_strong}
-use Rattle.command_words.specs.RequestViews.{strong_view}
+use Rattle.opennf_calls.proofs.Words.{refl, err_from_is_err_and, asks_strong, strong_view}
 use Rattle.network_calls.specs.StrongRuns.{sharing_scene}
 use Rattle.opennf_calls.proofs.CaptureRows.{capture_report, capture_row, sharing_reads}
 use Rattle.opennf_calls.proofs.strong.make.Goals as goal

@@ -1,9 +1,5 @@
 -- What a command ends with is what its words ask for.
-use Rattle.std.proofs.Common.{map}
-use Rattle.std.specs.Prelude.{string_bytes}
-use Rattle.nf_io.specs.Meaning.{as_named}
-use Rattle.command_words.specs.Requests.{request_of}
-use Rattle.command_words.specs.RequestViews.{calm_view}
+use Rattle.opennf_calls.proofs.Words.{map, string_bytes, as_named, request_of, calm_view}
 use Rattle.opennf_calls.proofs.EndedCommands.{ended_words}
 use Rattle.opennf_calls.proofs.top.opennf_calm.Goals as goal
 

@@ -1,9 +1,5 @@
 -- What is done is what the words ask for, with threads or without.
-use Rattle.std.proofs.Common.{rules, ◌≡◌, Some, map}
-use Rattle.std.specs.Prelude.{string_bytes}
-use Rattle.nf_io.specs.Meaning.{as_named}
-use Rattle.command_words.specs.Requests.{asks_run, request_of}
-use Rattle.command_words.specs.RequestViews.{calm_view, network_view}
+use Rattle.opennf_calls.proofs.Words.{rules, ◌≡◌, Some, map, string_bytes, as_named, asks_run, request_of, calm_view, network_view}
 use Rattle.opennf_calls.proofs.EndedCommands.{ended_words}
 use Rattle.opennf_calls.proofs.top.opennf_top.Goals as goal
 

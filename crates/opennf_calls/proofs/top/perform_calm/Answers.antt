@@ -1,6 +1,5 @@
 -- The row of the command's status, seen from before its files were bound.
-use Rattle.std.proofs.Common.{rules}
-use Rattle.command_words.specs.RequestViews.{calm_view}
+use Rattle.opennf_calls.proofs.Words.{rules, calm_view}
 use Rattle.opennf_calls.proofs.EndedCommands.{ended, ended_unbound}
 use Rattle.opennf_calls.proofs.top.perform_calm.Goals as goal
 

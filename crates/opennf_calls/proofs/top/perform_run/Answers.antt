@@ -1,7 +1,5 @@
 -- The row of a run's status, seen from before its files were bound.
-use Rattle.std.proofs.Common.{rules}
-use Rattle.command_words.specs.Requests.{asks_run}
-use Rattle.command_words.specs.RequestViews.{network_view}
+use Rattle.opennf_calls.proofs.Words.{rules, asks_run, network_view}
 use Rattle.opennf_calls.proofs.EndedCommands.{ended, ended_unbound}
 use Rattle.opennf_calls.proofs.top.perform_run.Goals as goal
 

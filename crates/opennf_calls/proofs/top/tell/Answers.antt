@@ -1,9 +1,6 @@
 -- What is known of the end stands, whatever became of the line on the standard error.
-use Rattle.std.proofs.Common.{rules, ◌≡◌, ◌∙◌}
-use Rattle.nf_io.specs.declared.outside.Role.TheVariants.{Errors}
-use Rattle.nf_io.specs.Meaning.{as_named}
+use Rattle.opennf_calls.proofs.Words.{rules, ◌≡◌, ◌∙◌, Errors, as_named, same_named}
 use Rattle.call_files.specs.Status.{line_of}
-use Rattle.call_files.proofs.BoundFiles.{same_named}
 use Rattle.opennf_calls.proofs.CompleteLemmas.{complete}
 use Rattle.opennf_calls.proofs.LastLineLemmas.{cause_around, line_after, names_after, puts_line}
 use Rattle.opennf_calls.proofs.top.tell.Goals as goal

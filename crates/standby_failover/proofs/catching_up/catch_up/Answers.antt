@@ -1,11 +1,7 @@
 -- The records are stepped on the packets of the one list and then of the other, and so each affected unit has caught up.
-use Rattle.std.proofs.Common.{rules, ◌≡◌, ◌==◌, ◌++◌, ℕ, List, find, map, ap, subst, ◌∙◌}
-use Rattle.std.specs.Prelude.{All, IsSome}
-use Rattle.flow_filter.specs.declared.packet.Packet.{Packet}
-use Rattle.record_table.specs.Table.{Records}
-use Rattle.net_world.specs.Jobs.{job_of}
-use Rattle.standby_failover.specs.Failover.{failover_of}
-use Rattle.standby_failover.specs.Stepping.{after_packets, packet_among}
+use Rattle.standby_failover.proofs.Words.{rules, ◌≡◌, ◌++◌, ℕ, List, map, ap, subst, ◌∙◌, All, IsSome, Packet, Records, job_of, failover_of, after_packets}
+use Rattle.standby_failover.proofs.Words.{packet_among}
+use Rattle.std.proofs.Common.{◌==◌, find}
 use Rattle.standby_failover.proofs.CaughtUp.{caught_after}
 use Rattle.standby_failover.proofs.catching_up.catch_up.Given.{Over}
 use Rattle.standby_failover.proofs.catching_up.catch_up.Goals as goal

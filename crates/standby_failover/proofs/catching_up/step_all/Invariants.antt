@@ -1,6 +1,5 @@
 -- What the packets still to come make of the records is what all of them make; what standing by stays.
-use Rattle.std.proofs.Common.{◌≡◌, map, drop}
-use Rattle.standby_failover.specs.Stepping.{after_packets, packet_among}
+use Rattle.standby_failover.proofs.Words.{◌≡◌, map, drop, after_packets, packet_among}
 use Rattle.standby_failover.proofs.catching_up.step_all.Given as goal
 
 abbrev pub invariant-loop-number : goal.invariant-loop-number

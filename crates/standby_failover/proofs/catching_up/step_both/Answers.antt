@@ -1,8 +1,6 @@
 -- Records that are stepped on one list and then on another are stepped on both.
-use Rattle.std.proofs.Common.{◌==◌, ℕ, List, find, ◌∙◌}
-use Rattle.std.specs.Prelude.{IsSome}
-use Rattle.std.proofs.lemmas.Result.{on_ok_weaker}
-use Rattle.flow_filter.specs.declared.packet.Packet.{Packet}
+use Rattle.standby_failover.proofs.Words.{ℕ, List, ◌∙◌, IsSome, on_ok_weaker, Packet}
+use Rattle.std.proofs.Common.{◌==◌, find}
 use Rattle.standby_failover.proofs.CaughtUp.{joined_live}
 use Rattle.standby_failover.proofs.Known.{all_first, all_second}
 use Rattle.standby_failover.proofs.catching_up.step_both.Goals as goal

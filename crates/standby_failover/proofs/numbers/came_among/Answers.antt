@@ -1,7 +1,5 @@
 -- A note of a packet that came adds its number where it is among the numbers, and any other none.
-use Rattle.std.proofs.Common.{◌≡◌, true, [], ◌∷◌, ◌++◌, sym, ap, ◌∙◌}
-use Rattle.standby_failover.specs.Failover.{is_in}
-use Rattle.standby_failover.specs.Scenes.{is_marked}
+use Rattle.standby_failover.proofs.Words.{◌≡◌, true, [], ◌∷◌, ◌++◌, sym, ap, ◌∙◌, is_in, is_marked}
 use Rattle.standby_failover.proofs.MetNumbers.{left_out, picked_next, picked_same}
 use Rattle.standby_failover.proofs.numbers.came_among.Goals as goal
 use Rattle.standby_failover.proofs.numbers.came_among.Goals.{then-is_marked+in_ok-push, else-is_marked}

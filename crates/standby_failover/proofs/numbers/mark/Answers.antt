@@ -1,6 +1,5 @@
 -- One mark is put.
-use Rattle.std.proofs.Common.{ap, ◌∙◌}
-use Rattle.std.specs.Prelude.{◌==◌, ◌||◌}
+use Rattle.standby_failover.proofs.Words.{ap, ◌∙◌, ◌==◌, ◌||◌}
 use Rattle.standby_failover.proofs.Marks.{mark_put}
 use Rattle.standby_failover.proofs.numbers.mark.Goals as goal
 

@@ -1,7 +1,5 @@
 -- The numbers so far are marked.
-use Rattle.std.proofs.Common.{◌≡◌, ℕ, take}
-use Rattle.standby_failover.specs.Failover.{is_in}
-use Rattle.standby_failover.specs.Scenes.{is_marked}
+use Rattle.standby_failover.proofs.Words.{◌≡◌, ℕ, take, is_in, is_marked}
 use Rattle.standby_failover.proofs.numbers.marks_of.Given as goal
 
 abbrev pub invariant-loop-number : goal.invariant-loop-number

@@ -1,6 +1,5 @@
 -- A note of a packet that was processed marks its number, and any other none.
-use Rattle.std.proofs.Common.{sym, ap, ◌∙◌}
-use Rattle.standby_failover.specs.Failover.{is_in}
+use Rattle.standby_failover.proofs.Words.{sym, ap, ◌∙◌, is_in}
 use Rattle.standby_failover.proofs.Marks.{marked_next}
 use Rattle.standby_failover.proofs.MetNumbers.{done_same, done_next}
 use Rattle.standby_failover.proofs.numbers.processed.Goals as goal

@@ -1,12 +1,8 @@
 -- The scene is that of the world after the choices, in which all is as the lists say.
-use Rattle.std.proofs.Common.{refl, ap, ◌∙◌}
-use Rattle.net_world.specs.Start.{started_with}
-use Rattle.net_world.specs.Tables.{table_at}
-use Rattle.standby_failover.specs.Causes.{first_of, world_after}
-use Rattle.standby_failover.specs.Failover.{IsLeft, IsPromoted}
-use Rattle.standby_failover.specs.Scenes.{AreAffected, Stopped, failover_in}
+use Rattle.standby_failover.proofs.Words.{refl, ap, ◌∙◌, started_with, table_at, first_of, IsLeft, IsPromoted, Stopped, failover_in, setting_of}
+use Rattle.standby_failover.specs.Causes.{world_after}
+use Rattle.standby_failover.specs.Scenes.{AreAffected}
 use Rattle.standby_failover.proofs.Known.{known}
-use Rattle.nf_net.specs.proof_outlines.proofs.joined.Setting.{setting_of}
 use Rattle.standby_failover.proofs.LeftWorlds.{is_left}
 use Rattle.standby_failover.proofs.promoting.promote_with.Given.{Over}
 use Rattle.standby_failover.proofs.promoting.promote_with.Goals as goal

@@ -1,16 +1,7 @@
 -- A world that is handed back is the one after the first choices; a fault is the first, or they are too few.
-use Rattle.std.proofs.Common.{◌≡◌, true, subst, sym, inl, arith}
-use Rattle.std.specs.Prelude.{slice_get}
-use Rattle.nf_msgs.specs.declared.msg.Msg.{Msg}
-use Rattle.nf_msgs.specs.declared.note.Note.{Note}
-use Rattle.nf_msgs.specs.Nodes.{instance_node}
-use Rattle.actor_net.specs.Network.{Network}
-use Rattle.net_world.specs.declared.node.Node.{Node}
-use Rattle.net_world.specs.Runs.{LeadsTo}
-use Rattle.net_world.specs.Start.{started_with}
-use Rattle.net_world.specs.Tables.{is_instance}
-use Rattle.standby_failover.specs.Causes.{FirstChoices, first_of, taken_among}
-use Rattle.nf_net.specs.proof_outlines.proofs.joined.Setting.{setting_of}
+use Rattle.standby_failover.proofs.Words.{◌≡◌, true, subst, sym, arith, slice_get, Msg, Note, instance_node, Network, Node, LeadsTo, started_with, is_instance}
+use Rattle.standby_failover.proofs.Words.{FirstChoices, first_of, taken_among, setting_of}
+use Rattle.std.proofs.Common.{inl}
 use Rattle.standby_failover.proofs.InstancesThere.{are_there}
 use Rattle.standby_failover.proofs.ReplayLemmas.{is_reached, too_few}
 use Rattle.standby_failover.proofs.replay.world_after.Given.{Over}

@@ -1,6 +1,5 @@
 -- The lines of the numbers so far, and those still to come.
-use Rattle.std.proofs.Common.{◌≡◌, ◌++◌, drop}
-use Rattle.std.specs.List.{flat_map}
+use Rattle.standby_failover.proofs.Words.{◌≡◌, ◌++◌, drop, flat_map}
 use Rattle.standby_failover.specs.Lines.{number_line}
 use Rattle.standby_failover.proofs.reporting.push_numbers.Given as goal
 

@@ -1,6 +1,5 @@
 -- The lines of the units so far, and those still to come.
-use Rattle.std.proofs.Common.{◌≡◌, ◌++◌, drop}
-use Rattle.std.specs.List.{flat_map}
+use Rattle.standby_failover.proofs.Words.{◌≡◌, ◌++◌, drop, flat_map}
 use Rattle.std.specs.FinMap as finite
 use Rattle.standby_failover.specs.Lines.{promoted_line}
 use Rattle.standby_failover.proofs.reporting.push_units.Given as goal

@@ -1,21 +1,9 @@
 -- The run of a schedule is that of the words, the script and the capture. The schedule comes to its end.
-use Rattle.std.proofs.Common.{Some, ap, refl, rules, sym, ◌≡◌, ◌∙◌, subst}
-use Rattle.std.proofs.lemmas.Result.{IfOk-weaker}
-use Rattle.nf_function.specs.declared.kind.Kind.{Kind}
-use Rattle.command_words.specs.RequestViews.{network_view}
-use Rattle.run_headline.specs.nf_net.specs.proof_outlines.proofs.joined.Setting.{setting_of}
-use Rattle.run_headline.specs.nf_net.proofs.length.ShortRuns.{short_runs}
-use Rattle.net_world.specs.Input.{IsInput}
-use Rattle.net_world.specs.Runs.{LeadsTo, choices_of}
-use Rattle.net_world.specs.Start.{started_with}
-use Rattle.call_files.specs.Phases.{gives, scenario_of}
-use Rattle.run_headline.specs.run_report.specs.Lines.{report_text}
-use Rattle.network_calls.specs.NetworkRuns.{IsRunOf, run_given}
-use Rattle.network_calls.specs.RunSteps.{made_with}
+use Rattle.network_calls.proofs.Words.{Some, ap, refl, rules, sym, ◌≡◌, ◌∙◌, subst, IfOk-weaker, Kind, network_view, setting_of, short_runs, IsInput, LeadsTo}
+use Rattle.network_calls.proofs.Words.{choices_of, started_with, gives, scenario_of, report_text, IsRunOf, run_given, made_with}
 use Rattle.network_calls.proofs.RunLemmas.{run_of}
 use Rattle.network_calls.proofs.RunsEnd.{never_stops}
 use Rattle.network_calls.proofs.network.ScheduledForFunction.call.Goals as goal
-use Rattle.proof_outlines.proofs.joined.Setting.{start}
 
 pub unreachable-requires : goal.unreachable-requires
 unreachable-requires g c =

@@ -1,16 +1,8 @@
 -- The run that is told is that of the words, the script and the capture.
-use Rattle.std.proofs.Common.{None, Err, ap, refl, subst, sym}
-use Rattle.nf_function.specs.declared.kind.Kind.{Kind}
-use Rattle.command_words.specs.RequestViews.{network_view}
-use Rattle.net_world.specs.Input.{IsInput}
-use Rattle.net_world.specs.Start.{started_with}
-use Rattle.run_headline.specs.nf_net.specs.proof_outlines.proofs.joined.Setting.{setting_of}
-use Rattle.run_headline.specs.nf_net.proofs.length.ShortRuns.{short_runs}
+use Rattle.network_calls.proofs.Words.{None, Err, ap, refl, subst, sym, Kind, network_view, IsInput, started_with, setting_of, short_runs, scenario_of}
 use Rattle.run_headline.specs.run_report.specs.Audits.{world_after}
-use Rattle.call_files.specs.Phases.{scenario_of}
 use Rattle.network_calls.proofs.RunLemmas.{run_of, run_refused}
 use Rattle.network_calls.proofs.network.ToldForFunction.call.Goals as goal
-use Rattle.proof_outlines.proofs.joined.Setting.{start}
 
 pub returns-in-Err : goal.returns-in-Err
 returns-in-Err g c =

@@ -1,17 +1,12 @@
 -- The sharing of a schedule is that of the words and the capture. The schedule comes to its end.
-use Rattle.std.proofs.Common.{◌≡◌, arith, refl, rules, subst, sym}
-use Rattle.std.proofs.lemmas.Result.{IfOk-weaker}
-use Rattle.nf_function.specs.declared.kind.Kind.{Kind}
-use Rattle.command_words.specs.RequestViews.{strong_view}
+use Rattle.network_calls.proofs.Words.{◌≡◌, arith, refl, rules, subst, sym, IfOk-weaker, Kind, strong_view, reports, made_with, IsSharingOf, sharing_for}
+use Rattle.network_calls.proofs.Words.{sharing_scene}
 use Rattle.strong_share.specs.Promises.{StrongCompleted, StrongEnds, StrongPromises}
 use Rattle.strong_share.specs.Report.{strong_text}
 use Rattle.strong_share.specs.Runs.{LeadsTo, choices_of}
 use Rattle.strong_share.specs.Start.{IsStrongJob, StrongJob, strong_start}
 use Rattle.run_headline.specs.StrongLaw.{IsStrongRun}
 use Rattle.run_headline.proofs.others.StrongTexts.{strong_law}
-use Rattle.call_files.specs.Phases.{reports}
-use Rattle.network_calls.specs.RunSteps.{made_with}
-use Rattle.network_calls.specs.StrongRuns.{IsSharingOf, sharing_for, sharing_scene}
 use Rattle.network_calls.proofs.CapturedJobs.{same_sharing}
 use Rattle.network_calls.proofs.sharing.SharingForFunction.call.Goals as goal
 

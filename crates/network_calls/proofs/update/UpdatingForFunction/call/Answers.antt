@@ -1,20 +1,13 @@
 -- The update of a schedule is that of the words and the capture. The schedule comes to its end.
-use Rattle.std.proofs.Common.{◌≡◌, List, length, ap, refl, sym, subst, ◌∙◌}
-use Rattle.std.proofs.lemmas.Result.{IfOk-weaker}
-use Rattle.flow_filter.specs.declared.packet.Packet.{Packet}
-use Rattle.nf_function.specs.declared.kind.Kind.{Kind}
-use Rattle.command_words.specs.RequestViews.{published_view}
+use Rattle.network_calls.proofs.Words.{◌≡◌, List, length, ap, refl, sym, subst, ◌∙◌, IfOk-weaker, Packet, Kind, published_view, MOST_CHOICES, scheduled_is_run}
+use Rattle.network_calls.proofs.Words.{IsUpdateJob, reports, made_with, IsUpdateOf, scene_of, update_for}
 use Rattle.two_phase.specs.Report.{two_text}
-use Rattle.actor_net.specs.declared.schedule.TheConstants.{MOST_CHOICES}
 use Rattle.actor_net.specs.Network.{IsRun}
-use Rattle.actor_net.proofs.ScheduleLaws.{scheduled_is_run}
-use Rattle.two_phase.specs.Start.{IsUpdateJob, two_start}
+use Rattle.two_phase.specs.Start.{two_start}
 use Rattle.two_phase.specs.Tables.{node_ended, node_ready, node_step}
 use Rattle.run_headline.specs.PublishedLaw.{IsTwoRun, two_subject}
 use Rattle.run_headline.proofs.others.TwoHeadlines.{published_law}
-use Rattle.call_files.specs.Phases.{reports}
-use Rattle.network_calls.specs.RunSteps.{made_with}
-use Rattle.network_calls.specs.UpdateRuns.{IsUpdateOf, scene_of, update_for, update_head}
+use Rattle.network_calls.specs.UpdateRuns.{update_head}
 use Rattle.network_calls.proofs.update.UpdatingForFunction.call.Goals as goal
 
 pub simulate_two-ended-requires : goal.simulate_two-ended-requires

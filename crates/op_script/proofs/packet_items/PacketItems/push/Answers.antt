@@ -1,8 +1,5 @@
 -- One packet more stands after the others, as an item.
-use Rattle.std.proofs.Common.{◌≡◌, ◌∙◌, [], ◌∷◌, ◌++◌, List, ap}
-use Rattle.nf_msgs.specs.declared.msg.Msg.{Msg}
-use Rattle.nf_msgs.specs.declared.msg.Msg.TheVariants.{InPacket}
-use Rattle.op_script.specs.PacketItems.{packets_of}
+use Rattle.op_script.proofs.Words.{◌≡◌, ◌∙◌, [], ◌∷◌, ◌++◌, List, ap, Msg, InPacket, packets_of}
 use Rattle.op_script.proofs.PacketLists.{more_packets, still_packets}
 use Rattle.op_script.proofs.packet_items.PacketItems.push.Goals as goal
 

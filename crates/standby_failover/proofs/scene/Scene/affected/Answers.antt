@@ -1,9 +1,6 @@
 -- What is found of the affected units is as the definitions say of the world.
-use Rattle.std.proofs.Common.{rules, ◌≡◌, filter, ap, ◌∙◌}
+use Rattle.standby_failover.proofs.Words.{rules, ◌≡◌, filter, ap, ◌∙◌, arrivals_in, is_in, lost_in_order, failover_in}
 use Rattle.std.specs.FinMap as finite
-use Rattle.net_world.specs.Log.{arrivals_in}
-use Rattle.standby_failover.specs.Failover.{is_in, lost_in_order}
-use Rattle.standby_failover.specs.Scenes.{failover_in}
 use Rattle.standby_failover.proofs.Arrivals.{lost_by_number}
 use Rattle.standby_failover.proofs.scene.Scene.affected.Goals as goal
 

@@ -1,8 +1,6 @@
 -- A note of a packet that came adds its number where it is open.
-use Rattle.std.proofs.Common.{◌≡◌, true, false, [], ◌∷◌, ◌++◌, sym, ap, ◌∙◌}
-use Rattle.std.specs.Prelude.{◌&&◌, not}
-use Rattle.standby_failover.specs.Failover.{is_open, numbers_done, is_in}
-use Rattle.standby_failover.specs.Scenes.{affects, failover_in, is_marked}
+use Rattle.standby_failover.proofs.Words.{◌≡◌, true, false, [], ◌∷◌, ◌++◌, sym, ap, ◌∙◌, ◌&&◌, not, is_open, numbers_done, is_in, affects, failover_in}
+use Rattle.standby_failover.proofs.Words.{is_marked}
 use Rattle.standby_failover.proofs.MetNumbers.{left_out, met_came, picked_next, picked_same}
 use Rattle.standby_failover.proofs.SceneSteps.{open_is}
 use Rattle.standby_failover.proofs.scene.Scene.pending.Goals as goal

@@ -1,8 +1,5 @@
 -- The open packets among those that came so far.
-use Rattle.std.proofs.Common.{◌≡◌, filter, take}
-use Rattle.net_world.specs.Log.{arrivals_in}
-use Rattle.standby_failover.specs.Failover.{is_open}
-use Rattle.standby_failover.specs.Scenes.{Stopped, IsSceneOf, failover_in}
+use Rattle.standby_failover.proofs.Words.{◌≡◌, filter, take, arrivals_in, is_open, Stopped, IsSceneOf, failover_in}
 use Rattle.standby_failover.proofs.scene.Scene.pending.Given as goal
 
 abbrev pub invariant-loop-note : goal.invariant-loop-note

@@ -1,10 +1,7 @@
 -- Each note of a packet that was processed goes on with the lists as the definitions say.
-use Rattle.std.proofs.Common.{rules, ◌≡◌, true, false, ◌+◌, take, Option, Some, None, [], refl, sym, subst, ◌∙◌}
-use Rattle.std.specs.Prelude.{is_some}
+use Rattle.standby_failover.proofs.Words.{rules, ◌≡◌, true, false, ◌+◌, take, Option, Some, None, [], refl, sym, subst, ◌∙◌, is_some, unit_at, numbers_done}
+use Rattle.standby_failover.proofs.Words.{failover_in, has_seen_more}
 use Rattle.std.specs.FinMap as finite
-use Rattle.nf_function.specs.Semantics.{unit_at}
-use Rattle.standby_failover.specs.Failover.{numbers_done}
-use Rattle.standby_failover.specs.Scenes.{failover_in, has_seen_more}
 use Rattle.standby_failover.proofs.LostPackets.{IsUpTo}
 use Rattle.standby_failover.proofs.MetNumbers.{done_same}
 use Rattle.standby_failover.proofs.NumberedPackets.{found}

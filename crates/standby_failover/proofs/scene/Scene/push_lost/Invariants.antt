@@ -1,7 +1,5 @@
 -- The packets so far that the records have seen make them again, and the others are lost.
-use Rattle.std.proofs.Common.{take}
-use Rattle.standby_failover.specs.Failover.{numbers_done}
-use Rattle.standby_failover.specs.Scenes.{Stopped, IsSceneOf, failover_in}
+use Rattle.standby_failover.proofs.Words.{take, numbers_done, Stopped, IsSceneOf, failover_in}
 use Rattle.standby_failover.proofs.LostPackets.{IsUpTo}
 use Rattle.standby_failover.proofs.scene.Scene.push_lost.Given as goal
 
