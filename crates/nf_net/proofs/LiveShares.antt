@@ -236,6 +236,6 @@ module _ {F R : Type 0} (setting : Setting F R) (n : ℕ) (count_is : n ≡ leng
       → j.world.link p (instance_node y) ≡ New (ShareMsg.Sync op at_home cs) ∷ rest → is_first_of c items (order_numbered items op) y ≡ at_home
   first_synced p y op at_home cs rest off waits =
       let of = new_head (λ r m. OfShare (S f g) j.world.shares r m) j.world.link j.shown_is.every.global.messages p (instance_node y)
-          (ShareMsg.Sync op at_home cs)
+      (ShareMsg.Sync op at_home cs)
       rest off waits in
       first_is_home op of.share of.found y ∙ sym (same_is at_home (instance_node y == of.share.home) of.says.1)

@@ -66,9 +66,11 @@ module _ {R : Type 0} (f : Semantics R) (c : Config) (items : List Msg) where
   -- so a record that was there is there later
   pub still_some : (before since : List ℕ) (r : R) → IsFront before since → kept_of before ≡ Some r → (s : R) × (kept_of since ≡ Some s)
   still_some before since r h e =
-      let more = fold_some r h.rest in
-      (more.0, ap kept_of (sym h.whole) ∙ fold-append (λ k p. kept_after f c.site k (packet_numbered items p)) None before h.rest
-      ∙ ap (λ k. fold f c items k h.rest) e ∙ more.1)
+      let more = fold_some r h.rest in (
+        more.0,
+        ap kept_of (sym h.whole) ∙ fold-append (λ k p. kept_after f c.site k (packet_numbered items p)) None before h.rest
+            ∙ ap (λ k. fold f c items k h.rest) e ∙ more.1,
+      )
 
 module _ {F R : Type 0} (setting : Setting F R) where
   open setting use {function as f, config as c, items}

@@ -7,7 +7,7 @@ use Rattle.nf_net.proofs.Words.{AllHome, arrived-append, done-append, given, all
 use Rattle.nf_net.proofs.Words.{world_of}
 use Rattle.net_world.specs.Window.{Window, homeward, switch_in, switch_of}
 use Rattle.nf_net.proofs.answers.CreditCounts.{credit, no_credit_from, no_credit_to, none_sent, instance_is}
-use Rattle.nf_net.proofs.answers.ArrivalNotes.{controller_notes_none}
+use Rattle.nf_net.proofs.answers.ArrivalNotes.{controller_notes_none, instance_notes_none}
 use Rattle.nf_net.proofs.WindowSteps.{switch_counts}
 use Rattle.nf_net.proofs.PacketCounts.{few_done}
 use Rattle.nf_net.proofs.AnsweredNotes.{controller_none}
@@ -81,14 +81,14 @@ module _ {F R : Type 0} (f : Semantics R) (g : Given) (n : ℕ) (window : ℕ) w
       let left = taken_outcome (node_step f) n w k p (node_of j.nodes k) m rest takes in
       let none = no_credit_to f g p k m (omega arith) labelled in
       let reach : reaches n k 0 ≡ true = grind (arith, nat_tests, takes.some) in
-      let did = instance_is f n k reach instance m in
-      let came = ap length did.came in
+      let came = ap length (instance_notes_none f instance m) in
+      let even = instance_is f n k reach instance m in
       record {
         switch = h.switch;
         there = λ d. left.others 0 d (omega arith) ∙ h.there d;
         cells = h.cells;
         home = h.home;
-        balance = balance_after w k p (node_of j.nodes k) m rest takes h.switch.flying h.switch.flying h.balance (omega (arith, none, came, did.even));
+        balance = balance_after w k p (node_of j.nodes k) m rest takes h.switch.flying h.switch.flying h.balance (omega (arith, none, came, even));
       }
 
 -- what messages weigh as cells that go home is how many these are

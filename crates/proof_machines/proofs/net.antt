@@ -10,7 +10,6 @@ pub mod Holding
 pub mod Insts
 pub mod InstMoves
 pub mod Links
-pub mod OnLinks
 pub mod InstWorld
 pub mod RowNumbers
 pub mod Copies

@@ -134,7 +134,7 @@ beside P there alone holds (c ∷ cs) (x ∷ xs) same all only =
 module _ {R : Type 0} (F : Type 0) (f : Semantics R) (laws : FunctionLaws f) (alloc : Global) (c : Config) (items : List Msg) (choices : List Choice)
     (is : IsCompleted F f alloc c items choices) where
   abbrev setting : Setting F R
-  setting = setting_of setting.is_input
+  setting = setting_of f laws alloc c items is.is_input
 
   abbrev w : Network (Node F R) Msg Note
   w = run (node_step f) choices (started_with alloc c items)

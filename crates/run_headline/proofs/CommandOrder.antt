@@ -154,9 +154,11 @@ module _ {F R : Type 0} (setting : Setting F R) where
   run_in_turn cs run_is = it.1.1
     where
       it : AllOf (world_of setting cs)
-      it = run_induction node_ready (node_step f) (length c.names + 2) (λ _ w. AllOf w) first (λ _ w k next h. ( runs_next setting w k next.taking h.0,
-            ( busy_next f (given setting) (length c.names + 2) refl w k next.taking h.0.joined h.1.0,
-              in_turn_next f (given setting) (length c.names + 2) refl w k next.taking h.0.joined h.1.0 h.1.1,
-            ),
-          ))
+      it = run_induction node_ready (node_step f) (length c.names + 2) (λ _ w. AllOf w) first (λ _ w k next h. (
+        runs_next setting w k next.taking h.0,
+        (
+          busy_next f (given setting) (length c.names + 2) refl w k next.taking h.0.joined h.1.0,
+          in_turn_next f (given setting) (length c.names + 2) refl w k next.taking h.0.joined h.1.0 h.1.1,
+        ),
+      ))
           (start_world setting) (count_at_start setting) (runs_at_start setting, (start_busy setting, λ op j noted. cc)) cs run_is

@@ -91,7 +91,7 @@ module _ {F R : Type 0} where
 module _ {R : Type 0} (F : Type 0) (f : Semantics R) (laws : FunctionLaws f) (alloc : Global) (c : Config) (items : List Msg) (choices : List Choice)
     (is : IsCompleted F f alloc c items choices) where
   abbrev setting : Setting F R
-  setting = setting_of setting.is_input
+  setting = setting_of f laws alloc c items is.is_input
 
   abbrev first : Network (Node F R) Msg Note
   first = started_with alloc c items

@@ -342,7 +342,8 @@ module _ {F R : Type 0} (setting : Setting F R) where
   run_tallied cs run_is = it.1.1
     where
       it : AllOf (world_of setting cs)
-      it = run_induction node_ready (node_step f) nodes (λ _ w. AllOf w) first (λ _ w k next h. ( runs_next setting w k next.taking h.0,
-            (enough_next setting w k next.taking h.0 h.1.0, tallied_next w k next.taking h),
-          ))
+      it = run_induction node_ready (node_step f) nodes (λ _ w. AllOf w) first (λ _ w k next h. (
+        runs_next setting w k next.taking h.0,
+        (enough_next setting w k next.taking h.0 h.1.0, tallied_next w k next.taking h),
+      ))
           (start_world setting) (count_at_start setting) (runs_at_start setting, (enough_at_start setting, tallied_at_start)) cs run_is

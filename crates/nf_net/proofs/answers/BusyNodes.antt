@@ -2,15 +2,14 @@
 use Rattle.nf_net.proofs.Words.{◌≡◌, ℕ, zero, suc, ◌+◌, Bool, true, false, Option, Some, None, List, [], ◌∷◌, ◌++◌, map, refl, sym, ap, ◌∙◌, subst}
 use Rattle.nf_net.proofs.Words.{if◌then◌else◌, ◌&&◌, ◌||◌, ◌==◌, nat_lt, option_map, Chunk, Semantics, unit_at, record_chunk, part, Mark, FullCell, Answer}
 use Rattle.nf_net.proofs.Words.{Import, Command, Msg, Note, switch_node, instance_node, Stepped, core_sent, EachSent, Each, each-append, SwitchState}
-use Rattle.nf_net.proofs.Words.{switch_step, stop_messages, InstanceState, pieces, to_controller, share_message, tell_step, tells_and_notes, instance_step}
-use Rattle.nf_net.proofs.Words.{selected_chunks, chunk_told, with_count, table_after, step_fits, refusal_of, instance_fits, Given, Label, sent-append, Unit}
-use Rattle.nf_net.proofs.Words.{split}
+use Rattle.nf_net.proofs.Words.{switch_step, stop_messages, InstanceState, pieces, to_controller, share_message, instance_step, selected_chunks, chunk_told}
+use Rattle.nf_net.proofs.Words.{with_count, table_after, step_fits, refusal_of, instance_fits, Given, Label, sent-append, Unit, split, IsQuiet, instance_quiet}
 use Rattle.std.specs.FinMap as finite
 use Rattle.nf_msgs.specs.declared.answer.Answer.TheVariants.{Old}
 use Rattle.nf_msgs.specs.declared.msg.Piece.{Piece as APiece}
 use Rattle.switch_node.specs.Switch as switch
-use Rattle.instance_worker.specs.Instance.{still, process_step}
-use Rattle.nf_net.proofs.answers.BusyLemmas.{AreOther, is_other, is_outcome}
+use Rattle.instance_worker.specs.Instance.{process_step}
+use Rattle.nf_net.proofs.answers.BusyLemmas.{AreOther, is_outcome}
 use Rattle.nf_net.proofs.answers.BusyController.{told_in}
 use Rattle.nf_net.proofs.answers.LinePicks.{picked}
 use Rattle.nf_net.proofs.answers.MoveSays.{Says}
@@ -81,6 +80,12 @@ module _ {R : Type 0} (f : Semantics R) (g : Given) where
   switch_hands s p m label = quiet_hands s m refl (λ c is. cc)
 
 -- An instance.
+quiet_other : (k : ℕ) (notes : List Note) → Each (IsQuiet k) notes → AreOther notes
+quiet_other k [] h = tt
+quiet_other k (Note.Begun op ∷ notes) h = absurd h.0
+quiet_other k (Note.Answered op answer ∷ notes) h = absurd h.0
+quiet_other k (n ∷ notes) h = (refl, quiet_other k notes h.1)
+
 abbrev IsOutcome : Option Answer → Type 0
 IsOutcome None = Prim.Unit {0}
 IsOutcome (Some a) = is_outcome a ≡ true
@@ -95,26 +100,19 @@ module _ (g : Given) (k : ℕ) where
   pieces_say op (p ∷ ps) = (tt, pieces_say op ps)
 
 module _ {F R : Type 0} (f : Semantics R) (g : Given) (k : ℕ) where
-  pub record InstanceSays (did : Stepped (InstanceState F R) Msg Note) : Type 0 where
-    pub notes_are : AreOther did.notes
-    pub says : EachSent (Says g) k did.sends
-
-  still_says : (i : InstanceState F R) → InstanceSays (still i)
-  still_says i = record { notes_are = tt; says = tt }
+  abbrev SaysSo : Stepped (InstanceState F R) Msg Note → Type 0
+  SaysSo did = EachSent (Says g) k did.sends
 
   shared_says : (i : InstanceState F R) (m : Mark) (u : Unit) → EachSent (Says g) k (to_controller (share_message f i m u))
   shared_says i (Mark.Shared op home) u = chunk_says g k op (option_map (record_chunk f u) (finite.get (part i.table home) u))
   shared_says i m u = tt
 
-  processed_says : (i : InstanceState F R) (m : Mark) (cell : FullCell) → InstanceSays (process_step f i m cell)
+  processed_says : (i : InstanceState F R) (m : Mark) (cell : FullCell) → SaysSo (process_step f i m cell)
   unfolding process_step
   processed_says i m cell =
       let after = with_count (record i { table = table_after f i m cell.packet }) in
       let u = unit_at f.kind i.site cell.packet in
-      record {
-        notes_are = (refl, tt);
-        says = sent-append (Says g) k (to_controller (share_message f after m u)) ((switch_node, Msg.Credit cell) ∷ []) (shared_says after m u) (tt, tt);
-      }
+      sent-append (Says g) k (to_controller (share_message f after m u)) ((switch_node, Msg.Credit cell) ∷ []) (shared_says after m u) (tt, tt)
 
   -- a refusal is an outcome
   refusal_says : (i : InstanceState F R) (piece : APiece) (first : Bool) → IsOutcome (refusal_of i piece first)
@@ -125,40 +123,35 @@ module _ {F R : Type 0} (f : Semantics R) (g : Given) (k : ℕ) where
       (λ _. refl)
       (λ _. elim (i.marked && nat_lt 1 piece.newest) as (λ b. IsOutcome (if b then Some (Old piece.newest 1) else None)) [ true ↦ refl | false ↦ tt ])
 
-  one_says : (i : InstanceState F R) (m : Msg) → Says g k 1 m → InstanceSays (tell_step i m)
-  one_says i m h = record { notes_are = tt; says = (h, tt) }
-
-  noted_says : (i : InstanceState F R) (m : Msg) (n : Note) → is_other n ≡ true → Says g k 1 m → InstanceSays (tells_and_notes i m n)
-  noted_says i m n other h = record { notes_are = (other, tt); says = (h, tt) }
-
-  pub instance_says : (i : InstanceState F R) (m : Msg) → InstanceSays (instance_step f i m)
-  instance_says = instance_fits f (λ _ _ did. InstanceSays did) (record {
-    still = λ i m. still_says i;
-    held = λ i mk cell op. still_says _;
+  step_says : (i : InstanceState F R) (m : Msg) → SaysSo (instance_step f i m)
+  step_says = instance_fits f (λ _ _ did. SaysSo did) (record {
+    still = λ i m. tt;
+    held = λ i mk cell op. tt;
     processed = λ i mk cell. processed_says i mk cell;
     released = λ i op cell. processed_says i Mark.Plain cell;
-    both = λ i m did next w a b. record {
-      notes_are = each-append (λ n. is_other n ≡ true) did.notes (next did.node).notes a.notes_are b.notes_are;
-      says = sent-append (Says g) k did.sends (next did.node).sends a.says b.says;
-    };
+    both = λ i m did next w a b. sent-append (Says g) k did.sends (next did.node).sends a b;
     unruled = λ i op did h. h;
-    seen = λ i mk cell op. one_says i (Msg.Seen op cell.packet) tt;
-    event = λ i mk cell op. one_says i (Msg.Event op cell) tt;
-    fenced = λ i op. one_says i (Msg.Fenced op) tt;
-    stopped = λ i. one_says _ Msg.Final tt;
-    enabled = λ i op filter action. one_says _ (Msg.Enabled op) tt;
-    given = λ i op filter. noted_says i (Msg.Chunks op _) _ refl tt;
-    streamed = λ i op filter. record { notes_are = (refl, tt); says = pieces_say g k op (pieces (selected_chunks f i filter)) };
-    all_given = λ i op. one_says i (Msg.AllChunk op _) tt;
-    deleted = λ i op gone. one_says _ (Msg.Deleted op) tt;
-    refused = λ i op piece first why is. one_says i (Msg.PutNo op (record { why = why; chunks = piece.chunks }))
-        (subst IsOutcome is (refusal_says i piece first));
-    taken = λ i op piece first is. record {
-      notes_are = (refl, tt);
-      says = elim (first || piece.last) as (λ b. EachSent (Says g) k (to_controller (if b then Msg.PutOk op ∷ [] else []))) [ true ↦ (tt, tt) | false ↦ tt ];
-    };
-    restored = λ i op chunks. noted_says _ (Msg.Restored op) _ refl tt;
-    stood_by = λ i op chunks. noted_says _ (Msg.Kept op) _ refl tt;
-    synced = λ i home op chunks. noted_says _ (Msg.Synced op) _ refl tt;
-    merged = λ i op chunk slots is. one_says _ (Msg.Kept op) tt;
+    seen = λ i mk cell op. (tt, tt);
+    event = λ i mk cell op. (tt, tt);
+    fenced = λ i op. (tt, tt);
+    stopped = λ i. (tt, tt);
+    enabled = λ i op filter action. (tt, tt);
+    given = λ i op filter. (tt, tt);
+    streamed = λ i op filter. pieces_say g k op (pieces (selected_chunks f i filter));
+    all_given = λ i op. (tt, tt);
+    deleted = λ i op gone. (tt, tt);
+    refused = λ i op piece first why is. (subst IsOutcome is (refusal_says i piece first), tt);
+    taken = λ i op piece first is.
+        elim (first || piece.last) as (λ b. EachSent (Says g) k (to_controller (if b then Msg.PutOk op ∷ [] else []))) [ true ↦ (tt, tt) | false ↦ tt ];
+    restored = λ i op chunks. (tt, tt);
+    stood_by = λ i op chunks. (tt, tt);
+    synced = λ i home op chunks. (tt, tt);
+    merged = λ i op chunk slots is. (tt, tt);
   })
+
+  pub record InstanceSays (did : Stepped (InstanceState F R) Msg Note) : Type 0 where
+    pub notes_are : AreOther did.notes
+    pub says : SaysSo did
+
+  pub instance_says : (i : InstanceState F R) (m : Msg) → InstanceSays (instance_step f i m)
+  instance_says i m = record { notes_are = quiet_other i.index (instance_step f i m).notes (instance_quiet f i m); says = step_says i m }

@@ -1,7 +1,7 @@
 -- Of every run, the open operations of the controller are the commands under way, and the log says what is true of commands.
 use Rattle.nf_net.proofs.Words.{◌≡◌, ◌≢◌, ℕ, zero, suc, ◌+◌, ◌<◌, Bool, true, false, Some, None, List, [], ◌++◌, get_or, refl, sym, ap, ◌∙◌, subst, arith}
-use Rattle.nf_net.proofs.Words.{if◌then◌else◌, ◌&&◌, ◌||◌, ◌==◌, not, is_some, and_parts, Semantics, Msg, Note, Choice, Network, Stepped, world_next, at, Takes}
-use Rattle.nf_net.proofs.Words.{Outcome, taken_outcome, Taking, OnLinks, EachSent, on_links_after, neither, Each, MoveState, ShareState, Operation, Move, Share}
+use Rattle.nf_net.proofs.Words.{if◌then◌else◌, ◌&&◌, ◌||◌, ◌==◌, not, is_some, and_parts, Semantics, Msg, Note, Choice, Network, world_next, at, Takes, Outcome}
+use Rattle.nf_net.proofs.Words.{taken_outcome, Taking, OnLinks, EachSent, on_links_after, neither, Each, MoveState, ShareState, Operation, Move, Share}
 use Rattle.nf_net.proofs.Words.{ControllerState, controller_step, switch_step, Node, Controller, node_step, node_ready, has_answered, is_begun, is_busy}
 use Rattle.nf_net.proofs.Words.{is_share, keeps_off, answers_of, Given, IsPlan, Label, Joined, node_of}
 use Rattle.std.specs.FinMap as finite

@@ -72,7 +72,8 @@ module _ {F R : Type 0} (setting : Setting F R) where
 
   -- every run leads to a world of a run in which the open operations are the commands under way
   pub run_busy : (cs : List Choice) → IsCourse setting cs → Joined f g (length c.names + 2) (world_of setting cs) × Busy g (world_of setting cs)
-  run_busy cs run_is = ( (run_beside setting cs run_is).joined,
+  run_busy cs run_is = (
+    (run_beside setting cs run_is).joined,
     run_keeps setting (λ _ w. Busy g w) start_busy
         (λ ds ok d s h. busy_next f g (length c.names + 2) refl (world_of setting ds) d s.taking s.runs.joined h) cs run_is,
   )

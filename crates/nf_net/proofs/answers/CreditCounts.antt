@@ -1,10 +1,10 @@
 -- How many cells a step sends home, and how many packets it notes: an instance sends one home for each packet that it processes.
-use Rattle.nf_net.proofs.Words.{◌≡◌, ℕ, ◌+◌, ◌<◌, ◌≤◌, true, false, Option, Some, None, List, [], ◌∷◌, ◌++◌, map, length, length-append, refl, sym, ap, ◌∙◌}
-use Rattle.nf_net.proofs.Words.{arith, if◌then◌else◌, ◌||◌, cond-same, Chunk, Semantics, unit_at, Mark, FullCell, Msg, Note, pieces, to_controller, chunk_told}
-use Rattle.nf_net.proofs.Words.{share_message, tell_step, tells_and_notes, and_then, selected_chunks, instance_step, reaches, EachSent, sent_weight}
-use Rattle.nf_net.proofs.Words.{arrivals_in, dones_in, arrived-append, done-append, instance_fits, Given, Label, Unit}
+use Rattle.nf_net.proofs.Words.{◌≡◌, ℕ, ◌<◌, ◌≤◌, true, false, Option, Some, None, List, [], ◌∷◌, map, length, length-append, refl, ap, arith, if◌then◌else◌}
+use Rattle.nf_net.proofs.Words.{◌||◌, cond-same, Chunk, Semantics, unit_at, Mark, FullCell, Msg, pieces, to_controller, chunk_told, share_message, and_then}
+use Rattle.nf_net.proofs.Words.{selected_chunks, instance_step, reaches, EachSent, sent_weight, dones_in, done-append, instance_fits, Given, Label, Unit}
 use Rattle.instance_worker.specs.declared.instance.Instance.{Instance}
-use Rattle.instance_worker.specs.Instance.{Step, still, process_step}
+use Rattle.state_chunk.specs.Format.{tally_chunk}
+use Rattle.instance_worker.specs.Instance.{Step, process_step}
 use Rattle.net_world.proofs.SentMessages.{sent_weight-append}
 use Rattle.nf_net.proofs.WeightlessMessages.{sends_nothing}
 
@@ -41,28 +41,15 @@ module _ (n k : ℕ) where
 
 module _ {F R : Type 0} (f : Semantics R) (n k : ℕ) (reach : reaches n k 0 ≡ true) where
   -- a step that sends as many cells home as it notes packets that are processed
-  pub record IsEven (step : Step F R) : Type 0 where
-    pub came : arrivals_in step.notes ≡ []
-    pub even : sent_weight credit n k step.sends ≡ length (dones_in step.notes)
-
-  still_is : (i : Instance F R) → IsEven (still i)
-  still_is i = record { came = refl; even = refl }
-
-  tells_is : (i : Instance F R) (m : Msg) → credit m ≡ 0 → IsEven (tell_step i m)
-  tells_is i m none = record { came = refl; even = told_none n k m none }
-
-  notes_is : (i : Instance F R) (m : Msg) (a : Note) → credit m ≡ 0 → arrivals_in (a ∷ []) ≡ [] → dones_in (a ∷ []) ≡ [] → IsEven (tells_and_notes i m a)
-  notes_is i m a none came went = record { came = came; even = told_none n k m none ∙ ap length (sym went) }
+  abbrev IsEven : Step F R → Type 0
+  IsEven step = sent_weight credit n k step.sends ≡ length (dones_in step.notes)
 
   both_are : (step : Step F R) (next : Instance F R → Step F R) → IsEven step → IsEven (next step.node) → IsEven (and_then step next)
   both_are step next a b =
       let sends = sent_weight-append credit n k step.sends (next step.node).sends in
       let notes = ap length (done-append step.notes (next step.node).notes) in
       let long = length-append (dones_in step.notes) (dones_in (next step.node).notes) in
-      record {
-        came = arrived-append step.notes (next step.node).notes ∙ ap (λ v. v ++ arrivals_in (next step.node).notes) a.came ∙ b.came;
-        even = let first = a.even in let second = b.even in omega (arith, sends, notes, long, first, second);
-      }
+      omega (arith, sends, notes, long, a, b)
 
   shared_none : (i : Instance F R) (m : Mark) (u : Unit) → sent_weight credit n k (to_controller (share_message f i m u)) ≡ 0
   shared_none i Mark.Plain u = refl
@@ -75,34 +62,31 @@ module _ {F R : Type 0} (f : Semantics R) (n k : ℕ) (reach : reaches n k 0 ≡
       let after = (process_step f i m cell).node in
       let both = sent_weight-append credit n k (to_controller (share_message f after m (unit_at f.kind i.site cell.packet))) ((0, Msg.Credit cell) ∷ []) in
       let home : sent_weight credit n k ((0, Msg.Credit cell) ∷ []) ≡ 1 = rw reach refl in
-      record { came = refl; even = omega (arith, both, shared_none after m (unit_at f.kind i.site cell.packet), home) }
+      omega (arith, both, shared_none after m (unit_at f.kind i.site cell.packet), home)
 
   -- what an instance does with any message
   pub instance_is : (i : Instance F R) (m : Msg) → IsEven (instance_step f i m)
   instance_is = instance_fits f (λ _ _ did. IsEven did) (record {
-    still = λ i m. still_is i;
-    held = λ i mk cell op. still_is _;
+    still = λ i m. refl;
+    held = λ i mk cell op. refl;
     processed = λ i mk cell. processed_is i mk cell;
     released = λ i op cell. processed_is i Mark.Plain cell;
     both = λ i m did next w a b. both_are did next a b;
     unruled = λ i op did h. h;
-    seen = λ i mk cell op. tells_is i (Msg.Seen op cell.packet) refl;
-    event = λ i mk cell op. tells_is i (Msg.Event op cell) refl;
-    fenced = λ i op. tells_is i (Msg.Fenced op) refl;
-    stopped = λ i. tells_is (record i { ended = true }) Msg.Final refl;
-    enabled = λ i op filter action. tells_is _ (Msg.Enabled op) refl;
-    given = λ i op filter. notes_is i (Msg.Chunks op (selected_chunks f i filter)) _ refl refl refl;
-    streamed = λ i op filter. record { came = refl; even = all_told n k (Msg.Piece op) (λ p. refl) (pieces (selected_chunks f i filter)) };
-    all_given = λ i op. tells_is i (Msg.AllChunk op _) refl;
-    deleted = λ i op gone. tells_is _ (Msg.Deleted op) refl;
-    refused = λ i op piece first why is. tells_is i (Msg.PutNo op (record { why = why; chunks = piece.chunks })) refl;
-    taken = λ i op piece first is. record {
-      came = refl;
-      even = elim (first || piece.last) as (λ b. sent_weight credit n k (to_controller (if b then Msg.PutOk op ∷ [] else [])) ≡ 0)
-          [ true ↦ told_none n k (Msg.PutOk op) refl | false ↦ refl ];
-    };
-    restored = λ i op chunks. notes_is _ (Msg.Restored op) _ refl refl refl;
-    stood_by = λ i op chunks. notes_is _ (Msg.Kept op) _ refl refl refl;
-    synced = λ i home op chunks. notes_is _ (Msg.Synced op) _ refl refl refl;
-    merged = λ i op chunk slots is. tells_is _ (Msg.Kept op) refl;
+    seen = λ i mk cell op. told_none n k (Msg.Seen op cell.packet) refl;
+    event = λ i mk cell op. told_none n k (Msg.Event op cell) refl;
+    fenced = λ i op. told_none n k (Msg.Fenced op) refl;
+    stopped = λ i. told_none n k Msg.Final refl;
+    enabled = λ i op filter action. told_none n k (Msg.Enabled op) refl;
+    given = λ i op filter. told_none n k (Msg.Chunks op (selected_chunks f i filter)) refl;
+    streamed = λ i op filter. all_told n k (Msg.Piece op) (λ p. refl) (pieces (selected_chunks f i filter));
+    all_given = λ i op. told_none n k (Msg.AllChunk op (tally_chunk f.kind i.tally.slots)) refl;
+    deleted = λ i op gone. told_none n k (Msg.Deleted op) refl;
+    refused = λ i op piece first why is. told_none n k (Msg.PutNo op (record { why = why; chunks = piece.chunks })) refl;
+    taken = λ i op piece first is. elim (first || piece.last) as (λ b. sent_weight credit n k (to_controller (if b then Msg.PutOk op ∷ [] else [])) ≡ 0)
+        [ true ↦ told_none n k (Msg.PutOk op) refl | false ↦ refl ];
+    restored = λ i op chunks. told_none n k (Msg.Restored op) refl;
+    stood_by = λ i op chunks. told_none n k (Msg.Kept op) refl;
+    synced = λ i home op chunks. told_none n k (Msg.Synced op) refl;
+    merged = λ i op chunk slots is. told_none n k (Msg.Kept op) refl;
   })

@@ -1,9 +1,9 @@
 -- What the chunks of one unit spell, among good chunks: the unit's record, if they have it, and once.
 use Rattle.proof_machines.proofs.unit.UnitPieces.{cons_option_is}
-use Rattle.nf_net.proofs.Words.{◌≡◌, ℕ, ◌+◌, ◌≤◌, true, false, cond, Option, Some, List, [], ◌∷◌, ◌++◌, map, refl, sym, ap, ◌∙◌, subst, arith, if◌then◌else◌}
-use Rattle.nf_net.proofs.Words.{is_some, option_to_list, flat_map, option_map_or, map-append, filter-append, Chunk, Semantics, Piece, units_in, same_unit}
-use Rattle.nf_net.proofs.Words.{is_among, spelled, same_unit-true, records, Each, each_map, Frame, record_at, is_chunk_of, spelled_of, IsChunk, units_same}
-use Rattle.nf_net.proofs.Words.{entries, outline_piece, Given, place, AreGoodChunks, Unit, split}
+use Rattle.nf_net.proofs.Words.{◌≡◌, ℕ, ◌+◌, ◌≤◌, false, cond, Option, Some, List, [], ◌∷◌, ◌++◌, map, refl, sym, ap, ◌∙◌, subst, arith, if◌then◌else◌, is_some}
+use Rattle.nf_net.proofs.Words.{option_to_list, flat_map, option_map_or, map-append, filter-append, Chunk, Semantics, Piece, units_in, same_unit, is_among}
+use Rattle.nf_net.proofs.Words.{spelled, same_unit-true, records, Each, each_map, Frame, record_at, is_chunk_of, spelled_of, IsChunk, units_same, entries}
+use Rattle.nf_net.proofs.Words.{outline_piece, Given, place, AreGoodChunks, Unit, split}
 use Rattle.std.specs.Prelude.{filter}
 use Rattle.move_op.specs.Move.{chunks_of}
 use Rattle.proof_machines.proofs.unit.Real.{see}

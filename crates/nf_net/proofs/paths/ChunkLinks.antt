@@ -8,7 +8,6 @@ use Rattle.nf_net.proofs.Words.{FromController, ToController, Unit, Mark, Target
 use Rattle.actor_net.proofs.WeightLaws.{Each}
 use Rattle.proof_machines.proofs.unit.Machine.{Where, Item, Pass, Fence, Enable, Stream, Delete, Put, Restore, Enabled, Piece, Deleted, Put_ok, Put_no}
 use Rattle.proof_machines.proofs.unit.Machine.{Restored, Fenced, Forward}
-use Rattle.proof_machines.proofs.unit.Kept.{record_in}
 use Rattle.proof_machines.proofs.unit.ToRemove.{gives, deletes}
 use Rattle.proof_machines.proofs.unit.Labels as labels
 use Rattle.proof_machines.proofs.unit.Real.{see}

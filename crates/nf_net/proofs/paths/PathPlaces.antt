@@ -1,8 +1,8 @@
 -- What a world has of a unit that no share has on all its links, kind by kind, is what waits there at the seat that shows the unit.
 use Rattle.nf_net.proofs.Words.{◌≡◌, ◌≢◌, ℕ, ◌<◌, ◌≤◌, Bool, true, false, List, [], ◌++◌, refl, sym, ap, ◌∙◌, subst, append-nil, arith, if◌then◌else◌, ◌==◌}
 use Rattle.nf_net.proofs.Words.{◌&&◌, nat_lt, filter, flat_map, ltb-false, nat_tests, Decides-eqb, Decides-ltb, Msg, on_link, State, Op, expect, passes_in}
-use Rattle.nf_net.proofs.Words.{events_in, for_switch, list_all, Seeing, frame, passed_in, forwarded_in, handed_over_in, diverted_in, on_links, is_sys, Given}
-use Rattle.nf_net.proofs.Words.{S, given, Unit, split}
+use Rattle.nf_net.proofs.Words.{events_in, for_switch, list_all, frame, passed_in, forwarded_in, handed_over_in, diverted_in, on_links, is_sys, Given, S, given}
+use Rattle.nf_net.proofs.Words.{Unit, split}
 use Rattle.proof_machines.proofs.unit.Path.{forwards}
 use Rattle.proof_machines.proofs.unit.Sides.{OneOf, First, Second}
 use Rattle.proof_machines.proofs.net.Units.{see}

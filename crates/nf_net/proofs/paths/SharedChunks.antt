@@ -139,7 +139,7 @@ module _ {R : Type 0} (f : Semantics R) (g : Given) (z : SeeingShare) where
       good_units f g u chunks l.1 ∙ ap is_some (ap (record_at u) same_chunks ∙ own)
   real_takes s r (Msg.Shared op chunk) l n flag cs kept e own =
       let seen : shown f g (Msg.Shared op chunk) ≡ Some (New (ShareMsg.Shared op l.1.chunk.entry)) =
-          ap (option_map (λ y. New (ShareMsg.Shared op y))) l.1.chunk.spells in
+      ap (option_map (λ y. New (ShareMsg.Shared op y))) l.1.chunk.spells in
       let both : Some (New (ShareMsg.Shared op l.1.chunk.entry)) ≡ Some (New (ShareMsg.Sync n flag cs)) = sym seen ∙ e in
       cc
   real_takes s r (Msg.Asked c) l n flag cs kept e own = absurd (asked_none c.op c.what (ShareMsg.Sync n flag cs) (λ want q. cc) e)
@@ -242,7 +242,7 @@ module _ {F R : Type 0} (here : Reached F R) (u : Unit) (x : ShareAsked) (before
       let its = (each_found (RestOp (S f g) u) q j.world.ops e k.ops found).0 in
       let own_frame : Frame = frame (S f g) (record { unit = u; op = e.op; third = 0 }) in
       phase_spelled f g own_frame m.phase (j.shown_is.controller.moves q m there).pieces
-          ∙ ap (λ p. as_spelled u (kept_records (see_phase own_frame p))) (sym h.phase)
+      ∙ ap (λ p. as_spelled u (kept_records (see_phase own_frame p))) (sym h.phase)
       ∙ ap (as_spelled u) (none_kept f g own_frame e.phase its.1.0)
 
   none_keeps : (q : ℕ) (o : Option Operation) → Sees f (place g) None (but_shares o) (stored_of j.nodes.controller.store q) → kept_at o ≡ []

@@ -1,48 +1,34 @@
 -- The whole world's steps as moves see them: a step on a message of a move is, to every unit, that of the moves' world; a step on a
 -- message of a share leaves the controller's moves as they are.
 use Rattle.proof_machines.proofs.net.Words.{◌≡◌, ℕ, Bool, true, false, Option, Some, None, List, [], ◌∷◌, ◌++◌, drop, refl, sym, ap, ◌∙◌, append-nil, arith}
-use Rattle.proof_machines.proofs.net.Words.{if◌then◌else◌, ◌&&◌, ◌==◌, option_map_or, nat_tests, sent_for, each_any, EachSent, Msg, MoveAsked, Sys, process}
-use Rattle.proof_machines.proofs.net.Words.{inst_step, ctrl_step, sw_sends, begin_sends, behind, links_after, inst_next, ctrl_next, sw_next, begin_next, Any}
-use Rattle.proof_machines.proofs.net.Words.{Old, New, ShareMsg, Shared_on, olds, as_old, Sharing, OpenShare, Told, Is_fenced, share_row, told_by, by_share}
-use Rattle.proof_machines.proofs.net.Words.{shared_chunk, member_step, WholeWorld, moves_of, whole_inst, whole_ctrl, whole_switch, begin_move, Unit}
+use Rattle.proof_machines.proofs.net.Words.{if◌then◌else◌, ◌&&◌, ◌==◌, option_map, option_map_or, nat_tests, sent_for, each_any, EachSent, Msg, MoveAsked, Sys}
+use Rattle.proof_machines.proofs.net.Words.{process, inst_step, ctrl_step, sw_sends, begin_sends, behind, links_after, inst_next, ctrl_next, sw_next}
+use Rattle.proof_machines.proofs.net.Words.{begin_next, Any, Old, New, ShareMsg, Shared_on, olds, as_old, Sharing, OpenShare, Told, Is_fenced, share_row}
+use Rattle.proof_machines.proofs.net.Words.{told_by, by_share, shared_chunk, member_step, WholeWorld, moves_of, whole_inst, whole_ctrl, whole_switch}
+use Rattle.proof_machines.proofs.net.Words.{begin_move, Unit}
+use Rattle.std.proofs.lemmas.List.Elements.{filter_map-append}
+use Rattle.std.specs.List.{filter_map}
+use Rattle.proof_machines.proofs.unit.Lists.{picked_each}
+use Rattle.proof_machines.proofs.net.Shares.{old_of}
 use Rattle.proof_machines.proofs.net.Elsewhere.{Elsewhere}
 use Rattle.proof_machines.proofs.net.ShareRows.{ToldOf, SentBy, share_row_by}
 
-abbrev pub put_old : {R : Type 0} → ℕ → Any R → List (ℕ × Msg R) → List (ℕ × Msg R)
-put_old j (Old m) xs = (j, m) ∷ xs
-put_old j (New m) xs = xs
-
 -- the moves' messages among sends
+abbrev pub old_sent : {R : Type 0} → ℕ × Any R → Option (ℕ × Msg R)
+old_sent x = option_map (λ m. (x.0, m)) (old_of x.1)
+
 abbrev pub old_sends : {R : Type 0} → List (ℕ × Any R) → List (ℕ × Msg R)
-old_sends [] = []
-old_sends (x ∷ xs) = put_old x.0 x.1 (old_sends xs)
-
-pub olds-append : {R : Type 0} (xs ys : List (Any R)) → olds (xs ++ ys) ≡ olds xs ++ olds ys
-olds-append [] ys = refl
-olds-append (Old m ∷ xs) ys = ap (λ v. m ∷ v) (olds-append xs ys)
-olds-append (New m ∷ xs) ys = olds-append xs ys
-
-put_old-append : {R : Type 0} (j : ℕ) (m : Any R) (xs ys : List (ℕ × Msg R)) → put_old j m (xs ++ ys) ≡ put_old j m xs ++ ys
-put_old-append j (Old m) xs ys = refl
-put_old-append j (New m) xs ys = refl
-
-pub old_sends-append : {R : Type 0} (xs ys : List (ℕ × Any R)) → old_sends (xs ++ ys) ≡ old_sends xs ++ old_sends ys
-old_sends-append [] ys = refl
-old_sends-append (x ∷ xs) ys = ap (put_old x.0 x.1) (old_sends-append xs ys) ∙ put_old-append x.0 x.1 (old_sends xs) (old_sends ys)
+old_sends xs = filter_map old_sent xs
 
 pub old_sends-old : {R : Type 0} (xs : List (ℕ × Msg R)) → old_sends (as_old xs) ≡ xs
-old_sends-old [] = refl
-old_sends-old (x ∷ xs) = ap (λ v. x ∷ v) (old_sends-old xs)
-
-one_sent : {R : Type 0} (j k : ℕ) (m : Any R) (xs : List (Any R)) (ys : List (ℕ × Msg R)) → olds xs ≡ sent_for j ys
-    → olds (if k == j then m ∷ xs else xs) ≡ sent_for j (put_old k m ys)
-one_sent j k (Old m) xs ys e =
-    elim (k == j) as (λ b. olds (if b then Old m ∷ xs else xs) ≡ (if b then m ∷ sent_for j ys else sent_for j ys)) [ true ↦ ap (λ v. m ∷ v) e | false ↦ e ]
-one_sent j k (New m) xs ys e = elim (k == j) as (λ b. olds (if b then New m ∷ xs else xs) ≡ sent_for j ys) [ true ↦ e | false ↦ e ]
+old_sends-old xs = picked_each old_sent (λ x. (x.0, Old x.1)) (λ x. refl) xs
 
 pub olds-sent : {R : Type 0} (j : ℕ) (xs : List (ℕ × Any R)) → olds (sent_for j xs) ≡ sent_for j (old_sends xs)
 olds-sent j [] = refl
-olds-sent j (x ∷ xs) = one_sent j x.0 x.1 (sent_for j xs) (old_sends xs) (olds-sent j xs)
+olds-sent j ((k, Old m) ∷ xs) = let rest = olds-sent j xs in elim (k == j) as (λ b. olds (if b then Old m ∷ sent_for j xs else sent_for j xs)
+    ≡ (if b then m ∷ sent_for j (old_sends xs) else sent_for j (old_sends xs))) [ true ↦ ap (λ v. m ∷ v) rest | false ↦ rest ]
+olds-sent j ((k, New m) ∷ xs) = let rest = olds-sent j xs in
+    elim (k == j) as (λ b. olds (if b then New m ∷ sent_for j xs else sent_for j xs) ≡ sent_for j (old_sends xs)) [ true ↦ rest | false ↦ rest ]
 
 olds-if : {R : Type 0} (b : Bool) (j : ℕ) (xs : List (ℕ × Any R)) → olds (if b then sent_for j xs else []) ≡ (if b then sent_for j (old_sends xs) else [])
 olds-if true j xs = olds-sent j xs
@@ -51,7 +37,8 @@ olds-if false j xs = refl
 -- links with sends put on them
 pub olds-put : {R : Type 0} (l : List (Any R)) (b : Bool) (j : ℕ) (xs : List (ℕ × Any R)) (ys : List (ℕ × Msg R)) → old_sends xs ≡ ys
     → olds (l ++ (if b then sent_for j xs else [])) ≡ olds l ++ (if b then sent_for j ys else [])
-olds-put l b j xs ys e = olds-append l (if b then sent_for j xs else []) ∙ ap (λ v. olds l ++ v) (olds-if b j xs ∙ ap (λ v. if b then sent_for j v else []) e)
+olds-put l b j xs ys e = filter_map-append old_of l (if b then sent_for j xs else [])
+    ∙ ap (λ v. olds l ++ v) (olds-if b j xs ∙ ap (λ v. if b then sent_for j v else []) e)
 
 pub no_olds-put : {R : Type 0} (l : List (Any R)) (b : Bool) (j : ℕ) (xs : List (ℕ × Any R)) → old_sends xs ≡ []
     → olds (l ++ (if b then sent_for j xs else [])) ≡ olds l
@@ -145,7 +132,7 @@ module _ {R : Type 0} (S : Sys R) (A : Sharing S) where
         its = (by_share S A w.shares p (told_by S A w.shares (Old m))).sends
 
         both : old_sends (as_old sent ++ its) ≡ sent
-        both = old_sends-append (as_old sent) its ∙ ap (λ v. v ++ old_sends its) (old_sends-old sent)
+        both = filter_map-append old_sent (as_old sent) its ∙ ap (λ v. v ++ old_sends its) (old_sends-old sent)
             ∙ ap (λ v. sent ++ v) (by_share_new w.shares p (told_by S A w.shares (Old m))) ∙ append-nil sent
 
     pub ctrl_old : (u : Unit) → w.link p 1 ≡ Old m ∷ rest → Elsewhere S u (ctrl_next S (moves_of S A w) p m) (moves_of S A (whole_ctrl S A w p (Old m)))

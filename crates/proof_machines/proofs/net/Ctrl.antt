@@ -51,11 +51,11 @@ module _ {R : Type 0} (o : Op) (mine : ℕ → Bool) (u : Unit) (t : NodesDiffer
   ext_a phase f (MoveMsg.Install n from to) h =
       let e = own_num n o.num t.num h in let none = quiet o mine u t phase f in
       rw e (by_if (λ it. Sees (frame_of o mine u) (operation_turn phase f []) (did_a o mine u t phase f (Some it))) ((from == o.src) && (to == o.dst)) none
-          none)
+      none)
   ext_a phase f (MoveMsg.Fence_to n to) h =
       let e = own_num n o.num t.num h in let none = quiet o mine u t phase f in
       rw e (sent_either (λ it. Sees (frame_of o mine u) (operation_turn phase f []) (did_a o mine u t phase f (Some it))) (frame_of o mine u) to
-          (λ w. Fence_to w)
+      (λ w. Fence_to w)
       (λ _. none) none)
   ext_a phase f m h = from_source_seen o mine u t phase f m (same_Some _ _ h)
 
@@ -71,10 +71,10 @@ module _ {R : Type 0} (o : Op) (mine : ℕ → Bool) (u : Unit) (t : NodesDiffer
   ext_b phase f (MoveMsg.Install n from to) h =
       let e = own_num n o.num t.num h in let none = quiet o mine u t phase f in
       rw e (by_if (λ it. Sees (frame_of o mine u) (operation_turn phase f []) (did_b o mine u t phase f (Some it))) ((from == o.src) && (to == o.dst)) none
-          none)
+      none)
   ext_b phase f (MoveMsg.Fence_to n to) h =
       let e = own_num n o.num t.num h in let none = quiet o mine u t phase f in
       rw e (sent_either (λ it. Sees (frame_of o mine u) (operation_turn phase f []) (did_b o mine u t phase f (Some it))) (frame_of o mine u) to
-          (λ w. Fence_to w)
+      (λ w. Fence_to w)
       (λ _. none) none)
   ext_b phase f m h = from_destination_seen o mine u t phase f m (same_Some _ _ h)

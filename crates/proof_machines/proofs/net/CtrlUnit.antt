@@ -240,7 +240,7 @@ module _ {R : Type 0} (S : Sys R) (z : Seeing) where
           | Some k ↦ λ num. either_way (k == n)
               (λ on. let same : k ≡ n = eqb-true k n on in
               subst (λ j. SeesController (found es j port m (find_op es j))
-                  (mdid (port == z.op.src) (port == z.op.dst) x.phase x.store (Real.seen own_frame m)))
+              (mdid (port == z.op.src) (port == z.op.dst) x.phase x.store (Real.seen own_frame m)))
               (sym same) (by_op (find_op es n) refl (num ∙ ap Some same)))
               (λ off. let none = unseen_other g k m num off l in
               subst (λ o. SeesController (found es k port m (find_op es k)) (mdid (port == z.op.src) (port == z.op.dst) x.phase x.store o)) (sym none)

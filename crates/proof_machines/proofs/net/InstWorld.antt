@@ -1,4 +1,5 @@
 -- An instance's step leads from a world that shows a seat to one that shows a seat, whatever it takes.
+use Rattle.proof_machines.proofs.net.Links.{same_controller}
 use Rattle.proof_machines.proofs.EachLaws.{each_map}
 use Rattle.proof_machines.proofs.net.Words.{◌≡◌, ◌≢◌, ℕ, Bool, true, false, Option, Some, None, List, [], ◌∷◌, ◌++◌, refl, sym, ap, ◌∙◌, subst, append-nil}
 use Rattle.proof_machines.proofs.net.Words.{arith, if◌then◌else◌, ◌&&◌, ◌==◌, nat_tests, Decides-eqb, same_Some, Where, At_a, At_b, At_c, Part, Inst, Did}
@@ -8,15 +9,15 @@ use Rattle.proof_machines.proofs.net.Words.{a_from_s, a_from_c, b_from_s, b_from
 use Rattle.proof_machines.proofs.net.Words.{By_bc, By_cc, By_cs, shown_by, Each, UnitSeat, is_covered, seat_shape, seat_all, seat_loose, seat_goes_on}
 use Rattle.proof_machines.proofs.net.Words.{covered_stays, seat_allowed, base_of, filter_map, inst_next, Msg, In_packet, Asked, Carry_on, Pass_on, Fence_on}
 use Rattle.proof_machines.proofs.net.Words.{Of_move, Sys, IsSys, NumberedInstance, InstanceTurn, inst_step, World, links_after, at_node, seen, find_op, Seeing}
-use Rattle.proof_machines.proofs.net.Words.{sides_of, EachSent, frame, Label, SeesNode, shows, node_at, done_of, Holds, IsController, sent, head, view_some}
-use Rattle.proof_machines.proofs.net.Words.{view_none, done_of-append, done_at, each_after, Answer, either_way, split, did_sends}
+use Rattle.proof_machines.proofs.net.Words.{sides_of, EachSent, frame, Label, SeesNode, shows, node_at, done_of, Holds, sent, head, view_some, view_none}
+use Rattle.proof_machines.proofs.net.Words.{done_of-append, done_at, each_after, Answer, either_way, split, did_sends}
 use Rattle.proof_machines.proofs.unit.Machine.{Take_sc}
 use Rattle.proof_machines.proofs.unit.Stages.{shape}
-use Rattle.proof_machines.proofs.unit.Fresh.{taken_sa, taken_sb}
 use Rattle.proof_machines.proofs.net.Insts.{InstanceGoes, does, carry_goes, pass_goes, fence_goes}
 use Rattle.proof_machines.proofs.net.InstMoves.{MovesInstance, Any, Streams_out, Puts_in, move_goes}
 use Rattle.proof_machines.proofs.unit.Lists.{head_passes}
-use Rattle.proof_machines.proofs.net.OnLinks.{no_put, no_stream, ca_kind, cb_kind}
+use Rattle.proof_machines.proofs.unit.Bare.{to_source, to_dest}
+use Rattle.proof_machines.proofs.unit.Seats.{ca_seat, cb_seat}
 
 falsely : false ≡ true → ⊥
 falsely e = cc
@@ -105,15 +106,11 @@ module _ {R : Type 0} (S : Sys R) (laws : IsSys S) (z : Seeing) where
           subst (λ q. SeesNode S z did.node (node_at S z x' q)) (sym same) (subst (λ v. SeesNode S z did.node v) (sym own) g.node))
           (λ e. subst (λ v. SeesNode S z (w.inst k) v) (sym (rest_of k e)) (h.insts k));
       target = rw target h.target;
-      ctrl = by_op (find_op w.ops z.op.num) h.ctrl;
+      ctrl = same_controller S z x x' phase store keep (find_op w.ops z.op.num) h.ctrl;
       ops = h.ops;
       done = done_of-append S z w.done (at_node y did.ran) ∙ ap (λ v. v ++ done_of S z (at_node y did.ran)) h.done
           ∙ ap (λ v. firsts x.done ++ v) (done_at S z y did.ran ∙ g.ran) ∙ sym (map-append _ x.done d.ran) ∙ ap firsts (sym done);
     }
-      where
-        by_op : (o : Option (Rattle.proof_machines.proofs.net.Net.Open R)) → IsController S z o x → IsController S z o x'
-        by_op None e = rw phase e
-        by_op (Some e) (a, b, c, f) = (a, b ∙ sym phase, c ∙ sym store, f ∙ sym keep)
 
     pub here : SeesNode S z i (node_at S z x y)
     here = h.insts y
@@ -190,17 +187,6 @@ module _ {R : Type 0} (S : Sys R) (laws : IsSys S) (z : Seeing) where
       pub is_third : y ≡ z.third → node_at S z x y ≡ x.c
       is_third yc = let t = third_tests.0 in let u = third_tests.1 in let q = third_tests.2 in rw (yc, t, u, q) refl
 
-      taken_sc : (u : State R) → u.sc ≡ it ∷ v → moved S.F u Take_sc ≡ put_c (record u { sc = v }) (inst_does S.F At_c [] None u.c it)
-      taken_sc u e = ap (λ l. elim l as (λ _. State R) [ [] ↦ u | x ∷ xs ↦ put_c (record u { sc = xs }) (inst_does S.F At_c [] None u.c x) ]) e
-
-      taken_ca : (u : State R) (parts : List (Part R)) → u.ca ≡ it ∷ v
-          → moved S.F u (Take_ca parts) ≡ put_a (record u { ca = v }) (inst_does S.F At_a parts None u.a it)
-      taken_ca u parts e = ap (λ l. elim l as (λ _. State R) [ [] ↦ u | x ∷ xs ↦ put_a (record u { ca = xs }) (inst_does S.F At_a parts None u.a x) ]) e
-
-      taken_cb : (u : State R) (refuse : Option Answer) → u.cb ≡ it ∷ v
-          → moved S.F u (Take_cb refuse) ≡ put_b (record u { cb = v }) (inst_does S.F At_b [] refuse u.b it)
-      taken_cb u refuse e = ap (λ l. elim l as (λ _. State R) [ [] ↦ u | x ∷ xs ↦ put_b (record u { cb = xs }) (inst_does S.F At_b [] refuse u.b x) ]) e
-
       label_0 : p ≡ 0 → Label S z 0 m
       label_0 p0 = subst (λ q. Label S z q m) p0 label
 
@@ -213,7 +199,7 @@ module _ {R : Type 0} (S : Sys R) (laws : IsSys S) (z : Seeing) where
           moves_on (inst_next S w p y m) s Take_sa x' (next_holds x' d g (views_on x'
           (pair 0 z.op.src x' p0 ya (a_from_s z.op.src z.op.dst z.third h.nodes x it v (sent S z y did.sends) d.to_c e (at_1 d g) (at_else d g))))
           (rw (ya, h.apart.src) refl) (λ k off. let out : (k == z.op.src) ≡ false = grind (arith, nat_tests) in rw out refl) refl refl refl refl refl)
-          (taken_sa S.F x it v e) tt
+          (rw (e, moved) refl) tt
 
       by_sb : y ≡ z.op.dst → p ≡ 0 → x.sb ≡ it ∷ v → Goes_to (inst_next S w p y m) s []
       by_sb yb p0 e =
@@ -225,7 +211,7 @@ module _ {R : Type 0} (S : Sys R) (laws : IsSys S) (z : Seeing) where
           moves_on (inst_next S w p y m) s Take_sb x' (next_holds x' d g (views_on x'
           (pair 0 z.op.dst x' p0 yb (b_from_s z.op.src z.op.dst z.third h.nodes x it v (sent S z y did.sends) d.to_c e (at_1 d g) (at_else d g))))
           (rw (yb, h.apart.dst_src, same) refl) (λ k off. let out : (k == z.op.dst) ≡ false = grind (arith, nat_tests) in rw out refl) refl refl refl refl refl)
-          (taken_sb S.F x it v e) tt
+          (rw (e, moved) refl) tt
 
       by_sc : y ≡ z.third → p ≡ 0 → x.sc ≡ it ∷ v → Goes_to (inst_next S w p y m) s []
       by_sc yc p0 e =
@@ -237,7 +223,7 @@ module _ {R : Type 0} (S : Sys R) (laws : IsSys S) (z : Seeing) where
           moves_on (inst_next S w p y m) s Take_sc x' (next_holds x' d g (views_on x'
           (pair 0 z.third x' p0 yc (c_from_s z.op.src z.op.dst z.third h.nodes x it v (sent S z y did.sends) d.to_c e (at_1 d g) (at_else d g))))
           (rw (yc, t, u, q) refl) (λ k off. let out : (k == z.third) ≡ false = grind (arith, nat_tests) in rw out refl) refl refl refl refl refl)
-          (taken_sc x e) tt
+          (rw (e, moved) refl) tt
 
       ca_goes : (parts : List (Part R)) → y ≡ z.op.src → p ≡ 1 → x.ca ≡ it ∷ v → ArePiecesOf parts x.a.live
           → InstanceGoes S laws z num did (inst_does S.F At_a parts None x.a it) → Goes_to (inst_next S w p y m) s []
@@ -247,7 +233,7 @@ module _ {R : Type 0} (S : Sys R) (laws : IsSys S) (z : Seeing) where
           moves_on (inst_next S w p y m) s (Take_ca parts) x' (next_holds x' d g (views_on x'
           (pair 1 z.op.src x' p1 ya (a_from_c z.op.src z.op.dst z.third h.nodes x it v (sent S z y did.sends) d.to_c e (at_1 d g) (at_else d g))))
           (rw (ya, h.apart.src) refl) (λ k off. let out : (k == z.op.src) ≡ false = grind (arith, nat_tests) in rw out refl) refl refl refl refl refl)
-          (taken_ca x parts e) (subst (λ o. ArePiecesOf parts o) (seat_allowed S.F s) fits)
+          (rw (e, moved) refl) (subst (λ o. ArePiecesOf parts o) (seat_allowed S.F s) fits)
 
       by_ca : y ≡ z.op.src → p ≡ 1 → x.ca ≡ it ∷ v → Goes_to (inst_next S w p y m) s []
       by_ca ya p1 e = by_kind (step_at At_a x.a n m label)
@@ -262,7 +248,7 @@ module _ {R : Type 0} (S : Sys R) (laws : IsSys S) (z : Seeing) where
           by_kind (Streams_out parts fits _ f) = ca_goes parts ya p1 e fits (seen_it At_a parts None x.a (f None))
           by_kind (Puts_in refuse k first o f) =
               let same_it : it ≡ Put k first = same_Some _ _ (sym is ∙ o) in
-              let never : false ≡ true = ap no_put (sym same_it) ∙ head_passes no_put it v x.ca e (ca_kind S.F s) in absurd (falsely never)
+              let never : false ≡ true = ap to_source (sym same_it) ∙ head_passes to_source it v x.ca e (ca_seat S.F s) in absurd (falsely never)
 
       cb_goes : (refuse : Option Answer) → y ≡ z.op.dst → p ≡ 1 → x.cb ≡ it ∷ v → InstanceGoes S laws z num did (inst_does S.F At_b [] refuse x.b it)
           → Goes_to (inst_next S w p y m) s []
@@ -273,7 +259,7 @@ module _ {R : Type 0} (S : Sys R) (laws : IsSys S) (z : Seeing) where
           moves_on (inst_next S w p y m) s (Take_cb refuse) x' (next_holds x' d g (views_on x'
           (pair 1 z.op.dst x' p1 yb (b_from_c z.op.src z.op.dst z.third h.nodes x it v (sent S z y did.sends) d.to_c e (at_1 d g) (at_else d g))))
           (rw (yb, h.apart.dst_src, same) refl) (λ k off. let out : (k == z.op.dst) ≡ false = grind (arith, nat_tests) in rw out refl) refl refl refl refl refl)
-          (taken_cb x refuse e) tt
+          (rw (e, moved) refl) tt
 
       by_cb : y ≡ z.op.dst → p ≡ 1 → x.cb ≡ it ∷ v → Goes_to (inst_next S w p y m) s []
       by_cb yb p1 e = by_kind (step_at At_b x.b n m label)
@@ -286,7 +272,7 @@ module _ {R : Type 0} (S : Sys R) (laws : IsSys S) (z : Seeing) where
           by_kind (Puts_in refuse k first _ f) = cb_goes refuse yb p1 e (seen_it At_b [] refuse x.b (f []))
           by_kind (Streams_out parts fits o f) =
               let same_it : it ≡ Stream = same_Some _ _ (sym is ∙ o) in
-              let never : false ≡ true = ap no_stream (sym same_it) ∙ head_passes no_stream it v x.cb e (cb_kind S.F s) in absurd (falsely never)
+              let never : false ≡ true = ap to_dest (sym same_it) ∙ head_passes to_dest it v x.cb e (cb_seat S.F s) in absurd (falsely never)
 
       not_one : y ≡ 1 → ⊥
       not_one e = let never : (1 == 1) ≡ false = subst (λ q. (q == 1) ≡ false) e y1 in cc

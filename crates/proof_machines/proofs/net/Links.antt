@@ -1,5 +1,8 @@
 -- What is seen of all links after a step, and the labels on them. Links are a function of pairs of nodes.
-use Rattle.std.proofs.Common.{◌≡◌, ℕ, Bool, true, false, Some, None, List, [], ◌∷◌, ◌++◌, drop, refl, sym, ap, ◌∙◌, subst, append-nil, arith}
+use Rattle.proof_machines.proofs.unit.Machine.{State}
+use Rattle.proof_machines.proofs.net.Net.{Open}
+use Rattle.proof_machines.proofs.net.Holding.{IsController}
+use Rattle.std.proofs.Common.{Option, Some, None, ◌≡◌, ℕ, Bool, true, false, List, [], ◌∷◌, ◌++◌, drop, refl, sym, ap, ◌∙◌, subst, append-nil, arith}
 use Rattle.std.specs.Prelude.{if◌then◌else◌, ◌&&◌, ◌==◌}
 use Rattle.std.proofs.lemmas.Bool.Decides.{nat_tests, Decides-eqb}
 use Rattle.actor_net.proofs.LinkLemmas.{neither}
@@ -127,3 +130,9 @@ module _ {R : Type 0} (S : Sys R) (z : Seeing) where
 
   pub done_at : (y : ℕ) (ps : List ℕ) → done_of S z (at_node y ps) ≡ only_mine (frame S z) ps
   done_at y ps = ap (filter (frame S z).mine) (firsts-on y ps)
+
+  -- the controller of a state that has its move as it was
+  pub same_controller : (x x' : State R) → x'.phase ≡ x.phase → x'.store ≡ x.store → x'.keep ≡ x.keep → (o : Option (Open R)) → IsController S z o x
+      → IsController S z o x'
+  same_controller x x' phase store keep None e = rw phase e
+  same_controller x x' phase store keep (Some e) (a, b, c, f) = (a, b ∙ sym phase, c ∙ sym store, f ∙ sym keep)

@@ -266,7 +266,7 @@ module _ {R : Type 0} (S : Sys R) (A : Sharing S) (laws : IsSys S) (z : SeeingSh
     member_sees covered (ShareMsg.Asked x) l = idles None refl
     member_sees covered (ShareMsg.Install n g from) l =
         idles (new_seen S A z y (ShareMsg.Install n g from))
-            (idle_if (n == z.num) (fit S A z (from == z.home) Install) (idle_fit (from == z.home) Install refl))
+        (idle_if (n == z.num) (fit S A z (from == z.home) Install) (idle_fit (from == z.home) Install refl))
     member_sees covered (ShareMsg.Forward n home p to) l = idles (new_seen S A z y (ShareMsg.Forward n home p to))
         (idle_else (n == z.num) p (fit S A z (same home (to == z.home)) (Forward p to)) (idle_fit (same home (to == z.home)) (Forward p to) refl))
     member_sees covered (ShareMsg.Chunks n cs) l = idles (new_seen S A z y (ShareMsg.Chunks n cs)) (idle_if (n == z.num) (Chunks (record_at z.unit cs)) refl)

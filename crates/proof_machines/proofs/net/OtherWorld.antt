@@ -8,7 +8,7 @@ use Rattle.proof_machines.proofs.net.Words.{seat_shape, seat_all, seat_loose, fi
 use Rattle.proof_machines.proofs.net.Words.{World, links_after, seen, Seeing, sides_of, EachSent, frame, Label, shows, node_at, Holds, IsController, sent, head}
 use Rattle.proof_machines.proofs.net.Words.{view_some, view_none, view_put, each_after, each_put, either_way}
 use Rattle.proof_machines.proofs.unit.ToRemove.{third_silent}
-use Rattle.proof_machines.proofs.net.OnLinks.{over_quiet}
+use Rattle.proof_machines.proofs.unit.Between.{over_quiet}
 use Rattle.proof_machines.proofs.net.InstWorld.{Goes_to, moves_on, same_order}
 use Rattle.proof_machines.proofs.net.CtrlUnit.{SeesController, ctrl_unit, mdid}
 
@@ -146,12 +146,6 @@ module _ {R : Type 0} (S : Sys R) (laws : IsSys S) (z : Seeing) where
       no_test : (q j : ℕ) → j ≢ q → (q == j) ≡ false
       no_test q j e = grind (arith, nat_tests)
 
-      taken_ac : (u : State R) → u.ac ≡ it ∷ v → moved S.F u Take_ac ≡ put_ctrl (record u { ac = v }) (from_source u.phase u.store it)
-      taken_ac u e = ap (λ l. elim l as (λ _. State R) [ [] ↦ u | x ∷ xs ↦ put_ctrl (record u { ac = xs }) (from_source u.phase u.store x) ]) e
-
-      taken_bc : (u : State R) → u.bc ≡ it ∷ v → moved S.F u Take_bc ≡ put_ctrl (record u { bc = v }) (from_destination u.keep u.phase u.store it)
-      taken_bc u e = ap (λ l. elim l as (λ _. State R) [ [] ↦ u | x ∷ xs ↦ put_ctrl (record u { bc = xs }) (from_destination u.keep u.phase u.store x) ]) e
-
       by_ac : p ≡ z.op.src → x.ac ≡ it ∷ v → Goes_to S laws z (ctrl_next S w p m) s []
       by_ac pa e =
           let d = from_source x.phase x.store it in
@@ -161,7 +155,7 @@ module _ {R : Type 0} (S : Sys R) (laws : IsSys S) (z : Seeing) where
           moves_on S laws z (ctrl_next S w p m) s Take_ac x' (next_holds x' d g
           (views_on z.op.src x' pa (ctrl_from_a z.op.src z.op.dst z.third h.nodes x it v (sent S z 1 c.sends) d.to_a d.to_b d.to_s e g.to_a g.to_b g.to_s
           (λ j na nb n0. g.others j (no_test z.op.src j na) (no_test z.op.dst j nb) (no_test 0 j n0)))) (λ k. refl) refl refl refl refl refl)
-          (taken_ac x e) tt
+          (rw (e, moved) refl) tt
 
       keep_is : z.op.keep ≡ x.keep
       keep_is = by_op (find_op w.ops z.op.num) refl h.ctrl
@@ -181,7 +175,7 @@ module _ {R : Type 0} (S : Sys R) (laws : IsSys S) (z : Seeing) where
           moves_on S laws z (ctrl_next S w p m) s Take_bc x' (next_holds x' d g
           (views_on z.op.dst x' pb (ctrl_from_b z.op.src z.op.dst z.third h.nodes x it v (sent S z 1 c.sends) d.to_a d.to_b d.to_s e g.to_a g.to_b g.to_s
           (λ j na nb n0. g.others j (no_test z.op.src j na) (no_test z.op.dst j nb) (no_test 0 j n0)))) (λ k. refl) refl refl refl refl refl)
-          (taken_bc x e) tt
+          (rw (e, moved) refl) tt
 
       moves_ctrl : ShownBy (sides_of z) x (record { from = p; to = 1; items = it ∷ v }) → Goes_to S laws z (ctrl_next S w p m) s []
       moves_ctrl (By_ac _ pa e) = by_ac pa e

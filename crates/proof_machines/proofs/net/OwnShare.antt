@@ -58,7 +58,7 @@ module _ {R : Type 0} (S : Sys R) (A : Sharing S) (z : SeeingShare) (is : IsShar
       → share_items S A z k (sent_for k (syncs z.num z.home j cs z.members)) ≡ sync_to (without_number z.members j) (record_at z.unit cs) k
   syncs_seen j cs k =
       ap (share_items S A z k) (sent_each (λ m. New (ShareMsg.Sync z.num (m == z.home) cs)) k (without_number z.members j)
-          (distinct-without z.members j is.apart))
+      (distinct-without z.members j is.apart))
       ∙ split (has (without_number z.members j) k)
       (λ b. share_items S A z k (if b then New (ShareMsg.Sync z.num (k == z.home) cs) ∷ [] else []) ≡ (if b then Sync (record_at z.unit cs) ∷ [] else []))
       (λ _. ap (λ b. add (where_true b (fit S A z (same (k == z.home) (k == z.home)) (Sync (record_at z.unit cs)))) []) (self z.num)

@@ -30,7 +30,7 @@ module _ {R : Type 0} (o : Op) where
   said_of_row (Forward p) = (tt, tt)
   said_of_row (Release f) =
       each-append (SentOf {R = R} o) (map (forward_to o.dst) f) ((0, MoveMsg.Install o.num o.src o.dst) ∷ []) (each_made _ _ (λ p _. tt) f (each_any f))
-          (refl, tt)
+      (refl, tt)
   said_of_row (Give_back f) =
       each-append (SentOf {R = R} o) (map (forward_to o.src) f) ((0, MoveMsg.Fence_to o.num o.src) ∷ []) (each_made _ _ (λ p _. tt) f (each_any f)) (refl, tt)
   said_of_row said = (refl, tt)

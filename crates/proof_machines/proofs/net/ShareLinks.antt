@@ -3,7 +3,7 @@
 use Rattle.proof_machines.proofs.net.Words.{◌≡◌, ℕ, Bool, true, false, Some, None, List, [], ◌∷◌, ◌++◌, refl, sym, ap, ◌∙◌, append-nil, arith, if◌then◌else◌}
 use Rattle.proof_machines.proofs.net.Words.{◌&&◌, ◌==◌, nat_tests, add, sent_for, filter_map-append, View, ShareMachineStep, put, joined, only, brings, Alike}
 use Rattle.proof_machines.proofs.net.Words.{cond-same, Sys, behind, links_after, share_expect, unit_share, share_seen, share_items, as_share, ShareHolds, Any}
-use Rattle.proof_machines.proofs.net.Words.{Sharing, WholeWorld, ran_of, SeeingShare, same_unit, split}
+use Rattle.proof_machines.proofs.net.Words.{Sharing, WholeWorld, SeeingShare, split}
 use Rattle.proof_machines.proofs.share.Share.{Item, moved}
 
 module _ {R : Type 0} (x : View R) where
@@ -93,13 +93,6 @@ module _ {R : Type 0} (S : Sys R) (A : Sharing S) (z : SeeingShare) where
   pub lone_unseen : (n k : ℕ) (m : Any R) → ((r : ℕ) → share_seen S A z r m ≡ None) → share_items S A z k (sent_for k ((n, m) ∷ [])) ≡ []
   lone_unseen n k m none =
       lone_view n k m ∙ elim (n == k) as (λ b. (if b then share_items S A z k (m ∷ []) else []) ≡ []) [ true ↦ ap (λ o. add o []) (none k) | false ↦ refl ]
-
-  pub ran_of-append : (xs ys : List (ℕ × ℕ)) → ran_of S A z.unit (xs ++ ys) ≡ ran_of S A z.unit xs ++ ran_of S A z.unit ys
-  ran_of-append [] ys = refl
-  ran_of-append (d ∷ xs) ys = split (same_unit (S.packet_unit d.0) z.unit)
-      (λ b. (if b then d ∷ ran_of S A z.unit (xs ++ ys) else ran_of S A z.unit (xs ++ ys)) ≡ (if b then d ∷ ran_of S A z.unit xs else ran_of S A z.unit xs)
-      ++ ran_of S A z.unit ys)
-      (λ _. ap (λ ds. d ∷ ds) (ran_of-append xs ys)) (λ _. ran_of-append xs ys)
 
   -- a step is nothing to the unit, or a move of its machine that brings none of its packets
   pub data Goes (w : WholeWorld S A) (x : View R) : Type 0 where

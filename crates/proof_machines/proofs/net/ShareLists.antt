@@ -1,8 +1,11 @@
 -- The list of open shares: what is found by a number after one changed, or after another began.
-use Rattle.std.proofs.Common.{◌≡◌, ℕ, Bool, true, false, Some, None, List, [], ◌∷◌, ◌++◌, refl, sym, ap, subst}
+use Rattle.std.proofs.Common.{◌≡◌, ℕ, Bool, true, false, Some, None, List, [], ◌∷◌, ◌++◌, refl, sym, ap, ◌∙◌, subst}
 use Rattle.std.specs.Prelude.{if◌then◌else◌, ◌==◌}
 use Rattle.std.proofs.lemmas.Bool.Decides.{Decides-eqb}
-use Rattle.proof_machines.proofs.unit.Labels.{Each}
+use Rattle.std.specs.List.{find}
+use Rattle.std.specs.Option.{option_or}
+use Rattle.std.proofs.lemmas.List.Folds.{find-append}
+use Rattle.proof_machines.proofs.unit.Labels.{Each, each_any}
 use Rattle.copy_share.specs.declared.share_phase.SharePhase.{SharePhase}
 use Rattle.proof_machines.proofs.net.Shares.{OpenShare, find_share, set_share}
 use Rattle.proof_machines.proofs.Tests.{split, by_if}
@@ -19,16 +22,17 @@ abbrev pub AreNumbersApart : List OpenShare → Type 0
 AreNumbersApart [] = Unit {0}
 AreNumbersApart (e ∷ es) = Each (λ d. (e.num == d.num) ≡ false) es × AreNumbersApart es
 
+-- what is found passes, and has what each has
+pub find_each : {X : Type 0} (P : X → Type 0) (test : X → Bool) (xs : List X) (x : X) → Each P xs → find test xs ≡ Some x → P x × (test x ≡ true)
+find_each P test [] x h is = cc
+find_each P test (y ∷ ys) x h is = split (test y) (λ b. (if b then Some y else find test ys) ≡ Some x → P x × (test x ≡ true))
+    (λ on there. let same : y ≡ x = cc in (subst P same h.0, subst (λ z. test z ≡ true) same on)) (λ _ there. find_each P test ys x h.1 there) is
+
 pub found_num : (es : List OpenShare) (n : ℕ) (e : OpenShare) → find_share es n ≡ Some e → (e.num == n) ≡ true
-found_num [] n e is = cc
-found_num (x ∷ es) n e is = split (x.num == n) (λ b. (if b then Some x else find_share es n) ≡ Some e → (e.num == n) ≡ true)
-    (λ on there. let same : x ≡ e = cc in subst (λ y. (y.num == n) ≡ true) same on)
-    (λ _ there. found_num es n e there) is
+found_num es n e is = (find_each (λ _. Unit {0}) (λ d. d.num == n) es e (each_any es) is).1
 
 pub found_each : (P : OpenShare → Type 0) (es : List OpenShare) (n : ℕ) (e : OpenShare) → Each P es → find_share es n ≡ Some e → P e
-found_each P [] n e h is = cc
-found_each P (x ∷ es) n e h is = split (x.num == n) (λ b. (if b then Some x else find_share es n) ≡ Some e → P e)
-    (λ _. λ there. let same : x ≡ e = cc in subst P same h.0) (λ _. λ there. found_each P es n e h.1 there) is
+found_each P es n e h is = (find_each P (λ d. d.num == n) es e h is).0
 
 -- found by its own number
 pub found_own : (es : List OpenShare) (n : ℕ) (e : OpenShare) → find_share es n ≡ Some e → find_share es e.num ≡ Some e
@@ -95,17 +99,11 @@ set_find n ph q (x ∷ es) k e is = split (x.num == n)
 
 -- behind another share
 pub find_more : (es : List OpenShare) (x : OpenShare) (k : ℕ) (e : OpenShare) → find_share es k ≡ Some e → find_share (es ++ x ∷ []) k ≡ Some e
-find_more [] x k e is = cc
-find_more (y ∷ es) x k e is =
-    split (y.num == k) (λ b. (if b then Some y else find_share es k) ≡ Some e → (if b then Some y else find_share (es ++ x ∷ []) k) ≡ Some e)
-    (λ _. λ there. there) (λ _. λ there. find_more es x k e there) is
+find_more es x k e is = find-append (λ d. d.num == k) es (x ∷ []) ∙ ap (λ o. option_or o (find_share (x ∷ []) k)) is
 
 pub find_old : (es : List OpenShare) (x : OpenShare) (k : ℕ) → (x.num == k) ≡ false → find_share (es ++ x ∷ []) k ≡ find_share es k
 find_old [] x k off = rw off refl
 find_old (y ∷ es) x k off = ap (λ o. if y.num == k then Some y else o) (find_old es x k off)
 
 pub find_new : (es : List OpenShare) (x : OpenShare) (k : ℕ) → find_share es k ≡ None → (x.num == k) ≡ true → find_share (es ++ x ∷ []) k ≡ Some x
-find_new [] x k none on = rw on refl
-find_new (y ∷ es) x k none on =
-    split (y.num == k) (λ b. (if b then Some y else find_share es k) ≡ None → (if b then Some y else find_share (es ++ x ∷ []) k) ≡ Some x) (λ _. λ bad. cc)
-    (λ _. λ left. find_new es x k left on) none
+find_new es x k none on = find-append (λ d. d.num == k) es (x ∷ []) ∙ rw (none, on) refl

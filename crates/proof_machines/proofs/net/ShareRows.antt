@@ -6,15 +6,13 @@ use Rattle.proof_machines.proofs.net.Words.{Has_chunks, Has_chunk, Is_synced, Ha
 use Rattle.proof_machines.proofs.net.Words.{by_share, split, by_if, Unit}
 use Rattle.copy_share.specs.ShareTable.{Words, service_if_idle}
 use Rattle.proof_machines.proofs.share.TableViews.{Follow, fenced_follows, chunks_follows, shared_follows, synced_follows}
+use Rattle.proof_machines.proofs.net.ShareLists.{find_each}
 
 module _ {R : Type 0} (S : Sys R) (A : Sharing S) where
   -- the share that takes a unit is found by its number
   pub taking_each : (P : OpenShare → Type 0) (es : List OpenShare) (v : Unit) (e : OpenShare) → Each P es → share_taking S es v ≡ Some e
       → P e × (S.takes e.filter v ≡ true)
-  taking_each P [] v e h is = cc
-  taking_each P (x ∷ es) v e h is = split (S.takes x.filter v) (λ b. (if b then Some x else share_taking S es v) ≡ Some e → P e × (S.takes e.filter v ≡ true))
-      (λ on there. let same : x ≡ e = cc in (subst P same h.0, subst (λ y. S.takes y.filter v ≡ true) same on))
-      (λ _ there. taking_each P es v e h.1 there) is
+  taking_each P es v e h is = find_each P (λ d. S.takes d.filter v) es e h is
 
   pub taking_found : (es : List OpenShare) (v : Unit) (e : OpenShare) → AreNumbersApart es → share_taking S es v ≡ Some e → find_share es e.num ≡ Some e
   taking_found [] v e h is = cc

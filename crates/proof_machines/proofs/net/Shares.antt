@@ -1,7 +1,8 @@
 -- The network with shares: its messages, the shares that are open, and the step of each node. Moves are those of `Net`: a whole world is
 -- also one of `Net` (`moves_of`), whose links leave out what shares and copies send.
 use Rattle.std.proofs.Common.{◌≡◌, ℕ, suc, ◌<◌, ◌≤◌, Bool, true, false, Option, Some, None, List, [], ◌∷◌, ◌++◌, length}
-use Rattle.std.specs.Prelude.{if◌then◌else◌, ◌&&◌, ◌==◌, option_map, not, map}
+use Rattle.std.specs.Prelude.{if◌then◌else◌, ◌&&◌, ◌==◌, option_map, not, map, filter}
+use Rattle.std.specs.List.{find, filter_map}
 use Rattle.std.specs.Option.{option_map_or}
 use Rattle.proof_machines.proofs.unit.Real.{Chunks, record_at, MoveMsg, sent_for}
 use Rattle.proof_machines.proofs.share.Share as share
@@ -22,11 +23,13 @@ pub data Any (R : Type 0) : Type 0 where
   Old : Msg R → Any R
   New : ShareMsg R → Any R
 
--- what moves see of a link
+-- what moves see of a message, and of a link
+abbrev pub old_of : {R : Type 0} → Any R → Option (Msg R)
+old_of (Old m) = Some m
+old_of (New m) = None
+
 abbrev pub olds : {R : Type 0} → List (Any R) → List (Msg R)
-olds [] = []
-olds (Old m ∷ ms) = m ∷ olds ms
-olds (New m ∷ ms) = olds ms
+olds ms = filter_map old_of ms
 
 -- of each message of a share on a link
 abbrev pub EachNew : {R : Type 0} → (ShareMsg R → Type 0) → List (Any R) → Type 0
@@ -39,8 +42,7 @@ same a b = if b then a else not a
 
 -- what a step of moves sends, as sends of the whole world
 abbrev pub as_old : {R : Type 0} → List (ℕ × Msg R) → List (ℕ × Any R)
-as_old [] = []
-as_old (x ∷ xs) = (x.0, Old x.1) ∷ as_old xs
+as_old xs = map (λ x. (x.0, Old x.1)) xs
 
 -- what shares need of the function, the tables and the packets, beside Sys
 pub record Sharing {R : Type 0} (S : Sys R) : Type 0 where
@@ -64,8 +66,7 @@ abbrev pub new_share : ShareAsked → OpenShare
 new_share x = record { num = x.num; home = x.home; members = x.members; filter = x.filter; phase = Fencing; queue = [] }
 
 abbrev pub find_share : List OpenShare → ℕ → Option OpenShare
-find_share [] n = None
-find_share (e ∷ es) n = if e.num == n then Some e else find_share es n
+find_share es n = find (λ e. e.num == n) es
 
 abbrev pub set_share : ℕ → SharePhase → List ℕ → List OpenShare → List OpenShare
 set_share n ph q [] = []
@@ -73,8 +74,7 @@ set_share n ph q (e ∷ es) = if e.num == n then record e { phase = ph; queue = 
 
 -- the share whose filter takes a unit
 abbrev pub share_taking : {R : Type 0} → Sys R → List OpenShare → units.Unit → Option OpenShare
-share_taking S [] u = None
-share_taking S (e ∷ es) u = if S.takes e.filter u then Some e else share_taking S es u
+share_taking S es u = find (λ e. S.takes e.filter u) es
 
 -- what a share is told
 pub data Told (R : Type 0) : Type 0 where
@@ -167,10 +167,18 @@ module _ {R : Type 0} (S : Sys R) (A : Sharing S) where
       record { live = live; standby = process S standby p; sends = shared_chunk n p (process S standby p); ran = p ∷ [] }
   member_step live standby (ShareMsg.Get n g) =
       record { live = live; standby = standby; sends = (1, New (ShareMsg.Chunks n (S.B.select (S.takes g) live))) ∷ []; ran = [] }
-  member_step live standby (ShareMsg.Sync n true cs) = record { live = A.replace cs live; standby = standby; sends = (1, New (ShareMsg.Synced n)) ∷ []; ran =
-      [] }
-  member_step live standby (ShareMsg.Sync n false cs) = record { live = live; standby = A.replace cs standby; sends = (1, New (ShareMsg.Synced n)) ∷ []; ran =
-      [] }
+  member_step live standby (ShareMsg.Sync n true cs) = record {
+    live = A.replace cs live;
+    standby = standby;
+    sends = (1, New (ShareMsg.Synced n)) ∷ [];
+    ran = [];
+  }
+  member_step live standby (ShareMsg.Sync n false cs) = record {
+    live = live;
+    standby = A.replace cs standby;
+    sends = (1, New (ShareMsg.Synced n)) ∷ [];
+    ran = [];
+  }
   member_step live standby m = record { live = live; standby = standby; sends = []; ran = [] }
 
   -- the switch, on a new message
@@ -278,8 +286,7 @@ module _ {R : Type 0} (S : Sys R) (A : Sharing S) where
 
   -- what was done of a unit, with places
   abbrev pub ran_of : units.Unit → List (ℕ × ℕ) → List (ℕ × ℕ)
-  ran_of u [] = []
-  ran_of u (d ∷ ds) = if same_unit (S.packet_unit d.0) u then d ∷ ran_of u ds else ran_of u ds
+  ran_of u ds = filter (λ d. same_unit (S.packet_unit d.0) u) ds
 
 -- a unit, and its share
 pub record SeeingShare : Type 0 where

@@ -1,12 +1,13 @@
 -- The switch's step, and a packet of the input, lead from a world that shows a seat to one that shows a seat.
-use Rattle.proof_machines.proofs.net.Words.{◌≡◌, ◌≢◌, ℕ, ◌≤◌, Bool, true, false, Option, Some, None, List, [], ◌∷◌, ◌++◌, drop, refl, sym, ap, ◌∙◌, subst}
-use Rattle.proof_machines.proofs.net.Words.{append-nil, arith, if◌then◌else◌, ◌&&◌, ◌==◌, nat_tests, Decides-eqb, and_parts, Where, At_a, At_b, At_c, Item}
-use Rattle.proof_machines.proofs.net.Words.{Pass, Fence_to, State, moved, switch_does, redirected, send_to, MoveMsg, where_true, add, Nodes, expect, after_take}
-use Rattle.proof_machines.proofs.net.Words.{switch_from_c, nothing_seen, arrives_at, By_sa, By_sb, By_sc, By_ca, By_cb, By_ac, By_bc, By_cc, By_cs, shown_by}
-use Rattle.proof_machines.proofs.net.Words.{Each, UnitSeat, seat_shape, seat_all, seat_loose, filter_map, never_true, Filter, sw_next, in_next, Msg, In_packet}
-use Rattle.proof_machines.proofs.net.Words.{Asked, Carry_on, Pass_on, Fence_on, Of_move, Sys, IsSys, Open, find_op, sw_target, sw_sends, World, links_after}
-use Rattle.proof_machines.proofs.net.Words.{seen, Seeing, EachSent, frame, Label, shows, node_at, place, Holds, IsController, sent, head, view_some, view_none}
-use Rattle.proof_machines.proofs.net.Words.{view_put, each_after, each_put, same_unit, same_unit-true, either_way, split}
+use Rattle.proof_machines.proofs.net.Links.{same_controller}
+use Rattle.proof_machines.proofs.net.Words.{◌≡◌, ◌≢◌, ℕ, ◌≤◌, Bool, true, false, Some, None, List, [], ◌∷◌, ◌++◌, drop, refl, sym, ap, ◌∙◌, subst, append-nil}
+use Rattle.proof_machines.proofs.net.Words.{arith, if◌then◌else◌, ◌&&◌, ◌==◌, nat_tests, Decides-eqb, and_parts, Where, At_a, At_b, At_c, Item, Pass, Fence_to}
+use Rattle.proof_machines.proofs.net.Words.{State, moved, switch_does, redirected, send_to, MoveMsg, where_true, add, Nodes, expect, after_take, switch_from_c}
+use Rattle.proof_machines.proofs.net.Words.{nothing_seen, arrives_at, By_sa, By_sb, By_sc, By_ca, By_cb, By_ac, By_bc, By_cc, By_cs, shown_by, Each, UnitSeat}
+use Rattle.proof_machines.proofs.net.Words.{seat_shape, seat_all, seat_loose, filter_map, never_true, Filter, sw_next, in_next, Msg, In_packet, Asked, Carry_on}
+use Rattle.proof_machines.proofs.net.Words.{Pass_on, Fence_on, Of_move, Sys, IsSys, find_op, sw_target, sw_sends, World, links_after, seen, Seeing, EachSent}
+use Rattle.proof_machines.proofs.net.Words.{frame, Label, shows, node_at, place, Holds, sent, head, view_some, view_none, view_put, each_after, each_put}
+use Rattle.proof_machines.proofs.net.Words.{same_unit, same_unit-true, either_way, split}
 use Rattle.proof_machines.proofs.unit.Machine.{Carry, Fence, Forward, Install, Stray, Arrive, Take_cs}
 use Rattle.proof_machines.proofs.unit.Lists.{head_passes}
 use Rattle.proof_machines.proofs.unit.Sides.{for_switch, seat_stands}
@@ -22,12 +23,6 @@ module _ {R : Type 0} (S : Sys R) (laws : IsSys S) (z : Seeing) where
   sends_label (Of_move g (MoveMsg.Install n from to)) = (tt, tt)
   sends_label (Of_move g (MoveMsg.Fence_to n to)) = (tt, tt)
   sends_label m = tt
-
-  -- the controller of a state that has its move as it was
-  same_controller : (x x' : State R) → x'.phase ≡ x.phase → x'.store ≡ x.store → x'.keep ≡ x.keep → (o : Option (Open R)) → IsController S z o x
-      → IsController S z o x'
-  same_controller x x' phase store keep None e = rw phase e
-  same_controller x x' phase store keep (Some e) (a, b, c, f) = (a, b ∙ sym phase, c ∙ sym store, f ∙ sym keep)
 
   -- a message that waits at the switch, in a world that shows the unit's seat
   record Waits (m : Msg R) : Type 0 where
@@ -64,7 +59,7 @@ module _ {R : Type 0} (S : Sys R) (laws : IsSys S) (z : Seeing) where
       labels = each_after (λ i j q. Label S z i q) w.link p 0 (sw_sends m) h.labels (sends_label m);
       insts = λ k. rw (nodes k) (h.insts k);
       target = target;
-      ctrl = same_controller x x' phase store keep (find_op w.ops z.op.num) h.ctrl;
+      ctrl = same_controller S z x x' phase store keep (find_op w.ops z.op.num) h.ctrl;
       ops = h.ops;
       done = rw done h.done;
     }
@@ -104,9 +99,6 @@ module _ {R : Type 0} (S : Sys R) (laws : IsSys S) (z : Seeing) where
       is_for : for_switch it ≡ true
       is_for = head_passes for_switch it v x.cs from_ctrl.1 (seat_stands S.F s).known
 
-      taken_cs : (u : State R) → u.cs ≡ it ∷ v → moved S.F u Take_cs ≡ switch_does (record u { cs = v }) it
-      taken_cs u e = ap (λ l. elim l as (λ _. State R) [ [] ↦ u | x ∷ xs ↦ switch_does (record u { cs = xs }) x ]) e
-
       abbrev grown : Where → List (Item R) → List (Item R) → List (Item R) → State R
       grown t ta tb tc = record x { cs = v; sa = x.sa ++ ta; sb = x.sb ++ tb; sc = x.sc ++ tc; target = t }
 
@@ -120,7 +112,7 @@ module _ {R : Type 0} (S : Sys R) (laws : IsSys S) (z : Seeing) where
           moves_on S laws z (sw_next S w p m) s Take_cs x' (next_holds x' (λ i j. view_some S z w.link p 0 m rest waits no_input (sw_sends m) it is i j
           ∙ ap (λ l. (if (i == p) && (j == 0) then drop 1 l else l) ++ (if i == 0 then sent S z 0 (sw_sends m) j else [])) (h.views i j)
           ∙ subst (λ q. after_take q 0 (expect z.op.src z.op.dst z.third x) (sent S z 0 (sw_sends m)) i j ≡ expect z.op.src z.op.dst z.third x' i j)
-          (sym from_ctrl.0) (links i j)) (λ k. refl) target refl refl refl refl) (taken_cs x from_ctrl.1 ∙ does) tt
+          (sym from_ctrl.0) (links i j)) (λ k. refl) target refl refl refl refl) (rw (from_ctrl.1, moved) does) tt
 
       nil_grown : record x { cs = v } ≡ grown x.target [] [] []
       nil_grown = rw (append-nil x.sa, append-nil x.sb, append-nil x.sc) refl
@@ -260,16 +252,16 @@ module _ {R : Type 0} (S : Sys R) (laws : IsSys S) (z : Seeing) where
           labels = each_put (λ i j m. Label S z i m) w.link 0 sends h.labels (tt, tt);
           insts = λ k. rw (nodes k) (h.insts k);
           target = rw target h.target;
-          ctrl = same_controller now x' phase store keep (find_op w.ops z.op.num) h.ctrl;
+          ctrl = same_controller S z now x' phase store keep (find_op w.ops z.op.num) h.ctrl;
           ops = h.ops;
           done = rw done h.done;
         }
 
-    grown_at : (t : Where) (ta tb tc : List (Item R)) (x' : State R) → record now { sa = now.sa ++ ta; sb = now.sb ++ tb; sc = now.sc ++ tc } ≡ x' → (r : ℕ)
+    grown_at : (ta tb tc : List (Item R)) (x' : State R) → record now { sa = now.sa ++ ta; sb = now.sb ++ tb; sc = now.sc ++ tc } ≡ x' → (r : ℕ)
         → ((send : ℕ → List (Item R)) → send r ≡ carried → ((j : ℕ) → j ≢ r → send j ≡ [])
         → (send z.op.src ≡ ta) × (send z.op.dst ≡ tb) × (send z.third ≡ tc) × ((j : ℕ) → j ≢ z.op.src → j ≢ z.op.dst → j ≢ z.third → send j ≡ []))
         → Shows x' r
-    grown_at t ta tb tc x' grow r all send at el i j =
+    grown_at ta tb tc x' grow r all send at el i j =
         let a = all send at el in
         arrives_at z.op.src z.op.dst z.third h.nodes now send ta tb tc a.0 a.1 a.2 a.3 i j ∙ ap (λ u. expect z.op.src z.op.dst z.third u i j) grow
 
@@ -277,18 +269,18 @@ module _ {R : Type 0} (S : Sys R) (laws : IsSys S) (z : Seeing) where
     by_side At_a to =
         let ab = h.nodes.ab in let ac = h.nodes.ac in
         puts (send_to At_a now (Carry q)) z.op.src to h.nodes.a_is
-        (grown_at At_a carried [] [] (send_to At_a now (Carry q)) (rw (append-nil now.sb, append-nil now.sc) refl) z.op.src
+        (grown_at carried [] [] (send_to At_a now (Carry q)) (rw (append-nil now.sb, append-nil now.sc) refl) z.op.src
         (λ send at el. (at, el z.op.dst (grind (arith, nat_tests)), el z.third (grind (arith, nat_tests)), λ j na _ _. el j na)))
         (λ k. refl) refl refl refl refl refl
     by_side At_b to =
         let bc = h.nodes.bc in
         puts (send_to At_b now (Carry q)) z.op.dst to h.nodes.b_is
-        (grown_at At_b [] carried [] (send_to At_b now (Carry q)) (rw (append-nil now.sa, append-nil now.sc) refl) z.op.dst
+        (grown_at [] carried [] (send_to At_b now (Carry q)) (rw (append-nil now.sa, append-nil now.sc) refl) z.op.dst
         (λ send at el. (el z.op.src h.nodes.ab, at, el z.third (grind (arith, nat_tests)), λ j _ nb _. el j nb)))
         (λ k. refl) refl refl refl refl refl
     by_side At_c to =
         puts (send_to At_c now (Carry q)) z.third to h.nodes.c_is
-        (grown_at At_c [] [] carried (send_to At_c now (Carry q)) (rw (append-nil now.sa, append-nil now.sb) refl) z.third
+        (grown_at [] [] carried (send_to At_c now (Carry q)) (rw (append-nil now.sa, append-nil now.sb) refl) z.third
         (λ send at el. (el z.op.src h.nodes.ac, el z.op.dst h.nodes.bc, at, λ j _ _ nc. el j nc)))
         (λ k. refl) refl refl refl refl refl
 

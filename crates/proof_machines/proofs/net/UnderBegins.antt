@@ -59,7 +59,7 @@ module _ {R : Type 0} (S : Sys R) (A : Sharing S) (z : SeeingShare) (w : WholeWo
   pub under_get : GlobalAll S A w → (n : ℕ) (h : Filter) (src : ℕ) → w.next ≤ n → Goes_on S A z u.stage (puts_get S A w n h src) before since
   under_get g n h src fresh =
       put_unseen w.ops w.shares (suc n) 1 ((src, New (ShareMsg.Get n h)) ∷ []) [] refl
-          (λ j. lone_unseen S A z src j (New (ShareMsg.Get n h)) (λ r. rw (new_num g n fresh) refl)) refl
+      (λ j. lone_unseen S A z src j (New (ShareMsg.Get n h)) (λ r. rw (new_num g n fresh) refl)) refl
       u.ops tt
 
   -- a command for a move, and one for a share
@@ -70,7 +70,7 @@ module _ {R : Type 0} (S : Sys R) (A : Sharing S) (z : SeeingShare) (w : WholeWo
   pub under_asks_share : (x : ShareAsked) → Goes_on S A z u.stage (asks S A w (New (ShareMsg.Asked x))) before since
   under_asks_share x =
       put_unseen w.ops w.shares w.next 0 ((1, New (ShareMsg.Asked x)) ∷ []) [] refl (λ j. lone_unseen S A z 1 j (New (ShareMsg.Asked x)) (λ r. refl)) refl
-          u.ops tt
+      u.ops tt
 
   -- what an instance keeps of a copy has nothing new of the unit
   pub under_keeps : (y : ℕ) (t : S.B.T) → S.B.at z.unit t ≡ S.B.at z.unit (w.standby y) → Goes_on S A z u.stage (keeps S A w y t) before since

@@ -5,7 +5,8 @@ use Rattle.proof_machines.proofs.net.Words.{put, joined, only, member_does, from
 use Rattle.proof_machines.proofs.net.Words.{share_expect, unit_share, share_seen, share_items, own_of, own_at, ShareHolds, Any, Old, New, Sharing, find_share}
 use Rattle.proof_machines.proofs.net.Words.{MemberTurn, WholeWorld, whole_inst, ran_of, SeeingShare, split, true_from_ne_false, Unit}
 use Rattle.proof_machines.proofs.share.Share.{Item}
-use Rattle.proof_machines.proofs.net.ShareLinks.{sw_links, to_links, quiet_links, view_after, ran_of-append, Goes, Goes.Nothing, Goes.Moves_so}
+use Rattle.std.proofs.lemmas.List.Elements.{filter-append}
+use Rattle.proof_machines.proofs.net.ShareLinks.{sw_links, to_links, quiet_links, view_after, Goes, Goes.Nothing, Goes.Moves_so}
 use Rattle.proof_machines.proofs.net.MemberSteps.{any_step, as_was, does, SeesMember}
 
 module _ {R : Type 0} (S : Sys R) (A : Sharing S) (laws : IsSys S) (z : SeeingShare) where
@@ -83,7 +84,7 @@ module _ {R : Type 0} (S : Sys R) (A : Sharing S) (laws : IsSys S) (z : SeeingSh
       share = ap (λ es. find_share es z.num) (inst_shares w p y m) ∙ rw (phase, queue) h.share;
       target = inst_target w p y m z.unit ∙ rw diverts h.target;
       diverts = λ v t c. diverts ∙ h.diverts v t (sym (inst_target w p y m v) ∙ c);
-      done = ap (ran_of S A z.unit) (inst_done w p y m) ∙ ran_of-append S A z w.done (at_node y d.ran) ∙ done;
+      done = ap (ran_of S A z.unit) (inst_done w p y m) ∙ filter-append _ w.done (at_node y d.ran) ∙ done;
     }
 
     quiet : share_seen S A z y m ≡ None → SeesMember S A laws z y (w.inst y).live d (as_was S A laws z (own_at S A z w y)) → Goes S A z w' x

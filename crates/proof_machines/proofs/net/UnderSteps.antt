@@ -8,7 +8,8 @@ use Rattle.proof_machines.proofs.net.Words.{OfShare, GlobalAll, mine, share_seen
 use Rattle.proof_machines.proofs.net.Words.{IsSharing, told_by, by_share, share_sends, arrive_sends, WholeWorld, whole_inst, whole_ctrl, whole_switch}
 use Rattle.proof_machines.proofs.net.Words.{whole_input, SeeingShare, either_way, split, placed}
 use Rattle.proof_machines.proofs.share.Share.{moved}
-use Rattle.proof_machines.proofs.net.AsMoves.{old_sends, old_sends-append, old_sends-old, member_new, by_share_new}
+use Rattle.std.proofs.lemmas.List.Elements.{filter_map-append}
+use Rattle.proof_machines.proofs.net.AsMoves.{old_sent, old_sends, old_sends-old, member_new, by_share_new}
 use Rattle.proof_machines.proofs.net.NewMessages.{new_head}
 use Rattle.proof_machines.proofs.net.UnderOld.{inst_leaves, ctrl_leaves}
 use Rattle.proof_machines.proofs.net.ShareLinks.{holds_alike}
@@ -131,7 +132,7 @@ module _ {R : Type 0} (S : Sys R) (A : Sharing S) (z : SeeingShare) where
         no_input = elim (p == 0) as (λ b. b && false ≡ false) [ true ↦ refl | false ↦ refl ]
 
         all_olds : (xs : List (ℕ × Msg R)) (m : Any R) → old_sends (as_old xs ++ (by_share S A w.shares p (told_by S A w.shares m)).sends) ≡ xs
-        all_olds xs m = old_sends-append (as_old xs) (by_share S A w.shares p (told_by S A w.shares m)).sends
+        all_olds xs m = filter_map-append old_sent (as_old xs) (by_share S A w.shares p (told_by S A w.shares m)).sends
             ∙ ap (λ v. v ++ old_sends (by_share S A w.shares p (told_by S A w.shares m)).sends) (old_sends-old xs)
             ∙ ap (λ v. xs ++ v) (by_share_new S A w.shares p (told_by S A w.shares m)) ∙ append-nil xs
 

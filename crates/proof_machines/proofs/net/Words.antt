@@ -65,8 +65,8 @@ pub use Rattle.proof_machines.proofs.unit.Lists.{firsts, firsts-on, none_is, nev
 pub use Rattle.proof_machines.proofs.unit.Machine.{At_a, At_b, At_c, Ran, after, State, Item, Put_no, Where, Enable, Stream, Delete, Put, Restore, Fence_to}
 pub use Rattle.proof_machines.proofs.unit.Machine.{ControllerTurn, goes, from_source, from_destination, Over, Pass, Rule, Free, Drops, Buffers, Part, Inst, Did}
 pub use Rattle.proof_machines.proofs.unit.Machine.{inst_does, MachineStep, Take_sa, Take_sb, Take_ca, Take_cb, moved, put_a, put_b, put_c, carried, ran_one}
-pub use Rattle.proof_machines.proofs.unit.Machine.{Steps, delete, next, Take_ac, Take_bc, put_ctrl, idle, Passing, Ending, Ended, Freezing, switch_does}
-pub use Rattle.proof_machines.proofs.unit.Machine.{redirected, send_to, Begin, Where as Side, sends as did_sends}
+pub use Rattle.proof_machines.proofs.unit.Machine.{Steps, Take_ac, Take_bc, put_ctrl, idle, Passing, Ending, Ended, Freezing, switch_does, redirected, send_to}
+pub use Rattle.proof_machines.proofs.unit.Machine.{Begin, Where as Side, sends as did_sends}
 pub use Rattle.std.specs.List.{filter_map}
 pub use Rattle.std.proofs.lemmas.List.{map-append}
 pub use Rattle.std.proofs.lemmas.List.Elements.{filter-append, filter_map-append}
@@ -82,8 +82,7 @@ pub use Rattle.proof_machines.proofs.unit.Seats.{base_of, Covered, Is_beside, Is
 pub use Rattle.proof_machines.proofs.unit.Seen.{NodesDiffer, frame_of, quiet, did_a, did_b, from_source_seen, from_destination_seen, sent_for-append}
 pub use Rattle.proof_machines.proofs.unit.SeenInst.{put_row, SeesInstance, stream_row, delete_row, restore_row, parts_of, stream_seen, delete_seen}
 pub use Rattle.proof_machines.proofs.unit.SeenInst.{restore_seen, put_seen}
-pub use Rattle.proof_machines.proofs.unit.Stages.{IsOrderedAs, Allowed, arrived_by, Streams, Laying, Turned, Fenced_a, Ending_b, Turned_loose, Fenced_loose}
-pub use Rattle.proof_machines.proofs.unit.Stages.{Ending_loose, Returned, Doorway, Is_wide, puts_of, to_a, times, Same, Fence_b, Fence_loose, Fenced_b, Moved}
-pub use Rattle.proof_machines.proofs.unit.Stages.{loose, At_rest}
+pub use Rattle.proof_machines.proofs.unit.Stages.{IsOrderedAs, Allowed, arrived_by, Laying, Turned, Fenced_a, Ending_b, Turned_loose, Fenced_loose}
+pub use Rattle.proof_machines.proofs.unit.Stages.{Ending_loose, Returned, to_a, times, Same, Fence_b, Fence_loose, Fenced_b, Moved, loose, At_rest}
 pub use Rattle.proof_machines.proofs.unit.UnitPieces.{records, first, ArePiecesOf, first_of_one, nil_left}
 pub use Rattle.nf_function.specs.declared.unit.Unit.{Unit}

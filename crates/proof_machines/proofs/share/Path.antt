@@ -5,7 +5,7 @@ use Rattle.std.proofs.Common.{arith}
 use Rattle.std.specs.List.{filter_map, flat_map}
 use Rattle.std.proofs.lemmas.Bool.Decides.{nat_tests, Decides-eqb}
 use Rattle.std.proofs.lemmas.List.Elements.{filter_map-append}
-use Rattle.proof_machines.proofs.unit.Lists.{picked_each}
+use Rattle.proof_machines.proofs.unit.Lists.{picked_each, picked_none}
 use Rattle.proof_machines.proofs.share.Share.{Item, Item.Carry, Item.Fence, Item.Shared, Item.Diverted, Item.Forward, UnitShare, View, has, mine_in, only}
 use Rattle.proof_machines.proofs.share.Share.{nowhere}
 use Rattle.proof_machines.proofs.share.Stages.{Stage, Stage.Diverting, Stage.Fence_goes, Stage.Carries, shape, path, distinct, IsShare}
@@ -83,8 +83,7 @@ all_carries : (R : Type 0) (l : List ℕ) → carries (map (carry {R = R}) l) �
 all_carries R l = picked_each carry_of carry (λ p. refl) l
 
 no_shared : (R : Type 0) (l : List ℕ) → filter_map shared_of (map (carry {R = R}) l) ≡ []
-no_shared R [] = refl
-no_shared R (p ∷ l) = no_shared R l
+no_shared R l = picked_none shared_of carry (λ p. refl) l
 
 all_diverted : (R : Type 0) (v : List ℕ) → filter_map divert_of (map (divert {R = R}) v) ≡ v
 all_diverted R v = picked_each divert_of divert (λ p. refl) v

@@ -1,4 +1,5 @@
 -- A stage without any packet of the unit has no record of it and holds nothing; a step in which no packet comes leaves it so.
+use Rattle.proof_machines.proofs.unit.Machine.{Stream, Delete, Restore, delete}
 use Rattle.proof_machines.proofs.unit.Words.{◌≡◌, ℕ, ◌+◌, Bool, true, false, Option, Some, None, List, [], ◌∷◌, ◌++◌, map, refl, ap, ◌∙◌, arith, if◌then◌else◌}
 use Rattle.proof_machines.proofs.unit.Words.{◌==◌, option_to_list, Steps, after, Rule, Free, Drops, Buffers, Item, Carry, Pass, Fence, Enable, Put, next, State}
 use Rattle.proof_machines.proofs.unit.Words.{MachineStep, firsts, marked, nil_left, nil_right, Stage, At_rest, Streams, Is_wide, shape, path, all_of, loose}
@@ -18,6 +19,14 @@ from_switch (Carry p) = true
 from_switch (Pass p) = true
 from_switch Fence = true
 from_switch x = false
+
+-- what the controller sends to A
+abbrev pub to_source : {R : Type 0} → Item R → Bool
+to_source (Enable r) = true
+to_source Stream = true
+to_source (Delete own) = true
+to_source (Restore o) = true
+to_source x = false
 
 -- what the controller sends to B
 abbrev pub to_dest : {R : Type 0} → Item R → Bool
@@ -46,7 +55,11 @@ sb_kind : {R : Type 0} (F : Steps R) (s : Stage F) → list_all from_switch (sha
 sb_kind F (At_rest d l k) = refl
 sb_kind F s = first_of (simp (list_all-append, carries_from, passes_from, mixed_from), cc)
 
-cb_kind : {R : Type 0} (F : Steps R) (s : Stage F) → list_all to_dest (shape F s).cb ≡ true
+pub ca_kind : {R : Type 0} (F : Steps R) (s : Stage F) → list_all to_source (shape F s).ca ≡ true
+ca_kind F (Streams d f y q l k s w) = all_pass to_source delete (λ h. refl) q
+ca_kind F s = refl
+
+pub cb_kind : {R : Type 0} (F : Steps R) (s : Stage F) → list_all to_dest (shape F s).cb ≡ true
 cb_kind F (Streams d f y q l k (Is_wide g w) fl) = all_pass to_dest next (λ h. refl) w
 cb_kind F (Streams d f y q l k s fl) = refl
 cb_kind F (At_rest d l k) = refl

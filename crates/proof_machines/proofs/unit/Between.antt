@@ -1,4 +1,4 @@
--- A seat begins as a unit at rest at one side, and a move that is over leaves it so.
+-- A seat begins as a unit at rest at one side, and a move that is over leaves it so, with no message on its way to the controller.
 use Rattle.proof_machines.proofs.unit.Words.{◌≡◌, ℕ, Bool, true, Some, None, List, [], ◌∷◌, ◌++◌, map, refl, ap, append-nil, Where, At_a, At_b, At_c, Ran}
 use Rattle.proof_machines.proofs.unit.Words.{Steps, after, Item, Carry, idle, Phase, Idle, Over, State, Ended, firsts, never_true, nil_left, nil_right, Stage}
 use Rattle.proof_machines.proofs.unit.Words.{At_rest, Moved, Undone, rest, shape, all_of}
@@ -83,3 +83,11 @@ pub seat_ends : {R : Type 0} (F : Steps R) (s : UnitSeat F) → is_over (seat_sh
 seat_ends F (Covered s) e = covered_over F s e
 seat_ends F (Is_away s) e = away_over F s.base s.bare s.d s.l e
 seat_ends F (Is_beside s) e = beside_over F s.base s.bare s.z s.h s.d s.strips (s.free (over_free F s.base e)) e
+
+-- at rest nothing but plain packets
+rest_quiet : {R : Type 0} (F : Steps R) (u : State R) (all : List ℕ) → AtRestNow F u all → (u.ac ≡ []) × (u.bc ≡ [])
+rest_quiet F u all (Rests_at At_a d l ph k e o) = (ap (λ x. x.ac) e, ap (λ x. x.bc) e)
+rest_quiet F u all (Rests_at w d l ph k e o) = (ap (λ x. x.ac) e, ap (λ x. x.bc) e)
+
+pub over_quiet : {R : Type 0} (F : Steps R) (s : UnitSeat F) → is_over (seat_shape F s).phase ≡ true → ((seat_shape F s).ac ≡ []) × ((seat_shape F s).bc ≡ [])
+over_quiet F s e = rest_quiet F (seat_shape F s) (seat_all s) (seat_ends F s e)

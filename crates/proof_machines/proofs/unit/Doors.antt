@@ -62,8 +62,8 @@ going_body y q off =
 
 module _ {R : Type 0} (F : Steps R) (d : List Ran) (f : List ℕ) (y : List (SourceItem R)) (q : List (Part R)) (l : List ℕ) (k : Bool) where
   -- all pieces came back to the source: they are restored
-  restores : (v : List (Part R)) (why : Answer) (c : Calm y q) → ArePiecesOf (v ++ body y q) (after F d) → pick v ≡ after F d
-  restores v why c w = let none = calm_body y q c in pick_all v (after F d) (refit (rw none (append-nil v)) w)
+  restores : (v : List (Part R)) (c : Calm y q) → ArePiecesOf (v ++ body y q) (after F d) → pick v ≡ after F d
+  restores v c w = let none = calm_body y q c in pick_all v (after F d) (refit (rw none (append-nil v)) w)
 
   pub refused_deleted : (h : Part R) (v : List (Part R)) (why : Answer) (w : Flows F d (Is_refused v why) (body (Deleted_of h ∷ y) q))
       → GoesOn F (Streams d f (Deleted_of h ∷ y) q l k (Is_refused v why) w) Take_ac
@@ -73,7 +73,7 @@ module _ {R : Type 0} (F : Steps R) (d : List Ran) (f : List ℕ) (y : List (Sou
       (λ on.
       let c = calm_tests y q on in
       let n = c.no_named in let m = c.no_delete in let p = c.no_piece in
-      let all = restores (v ++ h ∷ []) why c fits in
+      let all = restores (v ++ h ∷ []) c fits in
       (Restore_goes d f (events y) l k why, rw (on, all, shown-events y n p, m, p) (first_of (simp shapes, cc)), first_of (simp paths, cc), still At_a d))
       (λ off. (
         Streams d f y q l k (Is_refused (v ++ h ∷ []) why) (record { fits = fits; going = going_body y q off }),
@@ -118,7 +118,7 @@ module _ {R : Type 0} (F : Steps R) (d : List Ran) (f : List ℕ) (y : List (Sou
       (λ on.
       let c = calm_tests y q on in
       let n = c.no_named in let m = c.no_delete in let p = c.no_piece in
-      let all = restores (h ∷ v) why c w.fits in
+      let all = restores (h ∷ v) c w.fits in
       (Restore_goes d f (events y) l k why, rw (on, all, shown-events y n p, m, p) (first_of (simp shapes, cc)), first_of (simp paths, cc), still At_a d))
       (λ off. (
         Streams d f y q l k (Is_refused (h ∷ v) why) (record { fits = w.fits; going = going_body y q off }),

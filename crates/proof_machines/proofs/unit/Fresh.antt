@@ -1,14 +1,13 @@
 -- Where an instance processes packets of the unit in a step of the machine, its record is that of the fold of all that was done before.
+use Rattle.proof_machines.proofs.unit.Machine.{Stream}
 use Rattle.proof_machines.proofs.unit.Words.{◌≡◌, ◌≢◌, ℕ, Bool, true, false, Option, Some, None, List, [], ◌∷◌, ◌++◌, map, refl, sym, ap, ◌∙◌, subst}
 use Rattle.proof_machines.proofs.unit.Words.{append-nil, Answer, Where, At_a, At_b, Steps, after, Part, Inst, inst_does, put, Item, Carry, Pass, Fence, Put}
-use Rattle.proof_machines.proofs.unit.Words.{delete, next, State, Take_sa, Take_sb, put_a, put_b, moved, nil_right, drops, Stage, At_rest, Streams, All_put}
-use Rattle.proof_machines.proofs.unit.Words.{Hold_goes, Held, Laying, Turned, Turned_loose, Restore_goes, Doorway, Is_wide, puts_of, shape, all_of, cons_nil}
-use Rattle.proof_machines.proofs.unit.Words.{MachineStep, Allowed, arrived_by, Ran}
-use Rattle.std.specs.List.{list_all}
-use Rattle.proof_machines.proofs.unit.Lists.{head_passes, all_pass}
-use Rattle.proof_machines.proofs.unit.Bare.{bare_facts, stays_bare}
+use Rattle.proof_machines.proofs.unit.Words.{State, Take_sa, Take_sb, moved, nil_right, drops, Stage, At_rest, Streams, All_put, Hold_goes, Held, Laying}
+use Rattle.proof_machines.proofs.unit.Words.{Turned, Turned_loose, Restore_goes, shape, all_of, cons_nil, MachineStep, Allowed, arrived_by, Ran}
+use Rattle.proof_machines.proofs.unit.Lists.{head_passes}
+use Rattle.proof_machines.proofs.unit.Bare.{to_source, to_dest, bare_facts, stays_bare}
 use Rattle.proof_machines.proofs.unit.Steps.{goes_on}
-use Rattle.proof_machines.proofs.unit.Seats.{UnitSeat, Covered, Is_beside, Is_away, seat_shape}
+use Rattle.proof_machines.proofs.unit.Seats.{UnitSeat, Covered, Is_beside, Is_away, seat_shape, ca_seat, cb_seat}
 
 -- a message at which no instance processes anything
 abbrev pub still_item : {R : Type 0} → Item R → Bool
@@ -18,27 +17,19 @@ still_item Fence = false
 still_item it = true
 
 -- the controller sends none that isn't so
-ca_stage : {R : Type 0} (F : Steps R) (s : Stage F) → list_all still_item (shape F s).ca ≡ true
-ca_stage F (Streams d f y q l k s w) = all_pass still_item delete (λ h. refl) q
-ca_stage F s = refl
+still_to_source : {R : Type 0} (it : Item R) → to_source it ≡ true → still_item it ≡ true
+still_to_source Stream e = refl
+still_to_source it e = cc
 
-puts_still : {R : Type 0} (s : Doorway R) → list_all still_item (puts_of s) ≡ true
-puts_still (Is_wide g w) = all_pass still_item next (λ h. refl) w
-puts_still s = refl
-
-cb_stage : {R : Type 0} (F : Steps R) (s : Stage F) → list_all still_item (shape F s).cb ≡ true
-cb_stage F (Streams d f y q l k s w) = puts_still s
-cb_stage F s = refl
+still_to_dest : {R : Type 0} (it : Item R) → to_dest it ≡ true → still_item it ≡ true
+still_to_dest (Put h first) e = refl
+still_to_dest it e = cc
 
 pub still_ca : {R : Type 0} (F : Steps R) (s : UnitSeat F) (it : Item R) (v : List (Item R)) → (seat_shape F s).ca ≡ it ∷ v → still_item it ≡ true
-still_ca F (Covered s) it v e = head_passes still_item it v (shape F s).ca e (ca_stage F s)
-still_ca F (Is_beside s) it v e = head_passes still_item it v (shape F s.base).ca e (ca_stage F s.base)
-still_ca F (Is_away s) it v e = head_passes still_item it v (shape F s.base).ca e (ca_stage F s.base)
+still_ca F s it v e = still_to_source it (head_passes to_source it v (seat_shape F s).ca e (ca_seat F s))
 
 pub still_cb : {R : Type 0} (F : Steps R) (s : UnitSeat F) (it : Item R) (v : List (Item R)) → (seat_shape F s).cb ≡ it ∷ v → still_item it ≡ true
-still_cb F (Covered s) it v e = head_passes still_item it v (shape F s).cb e (cb_stage F s)
-still_cb F (Is_beside s) it v e = head_passes still_item it v (shape F s.base).cb e (cb_stage F s.base)
-still_cb F (Is_away s) it v e = head_passes still_item it v (shape F s.base).cb e (cb_stage F s.base)
+still_cb F s it v e = still_to_dest it (head_passes to_dest it v (seat_shape F s).cb e (cb_seat F s))
 
 put_still : {R : Type 0} (F : Steps R) (first : Bool) (refuse : Option Answer) (i : Inst R) (h : Part R) → (put F first refuse i h).ran ≡ []
 put_still F false refuse i h = refl
@@ -100,21 +91,13 @@ bare_ran F s bare m a none ran taken =
     let g = goes_on F s m a in
     nil_right (shape F s).done ran (sym taken ∙ ap (λ x. x.done) g.1 ∙ (bare_facts F g.0 (stays_bare F s m a bare none)).done)
 
-pub taken_sa : {R : Type 0} (F : Steps R) (u : State R) (it : Item R) (v : List (Item R)) → u.sa ≡ it ∷ v
-    → moved F u Take_sa ≡ put_a (record u { sa = v }) (inst_does F At_a [] None u.a it)
-taken_sa {R = R} F u it v e = ap (λ l. elim l as (λ _. State R) [ [] ↦ u | x ∷ xs ↦ put_a (record u { sa = xs }) (inst_does F At_a [] None u.a x) ]) e
-
 pub bare_sa : {R : Type 0} (F : Steps R) (s : Stage F) → all_of s ≡ [] → (it : Item R) (v : List (Item R)) → (shape F s).sa ≡ it ∷ v
     → (inst_does F At_a [] None (shape F s).a it).ran ≡ []
-bare_sa F s bare it v e = bare_ran F s bare Take_sa tt refl _ (ap (λ x. x.done) (taken_sa F (shape F s) it v e))
-
-pub taken_sb : {R : Type 0} (F : Steps R) (u : State R) (it : Item R) (v : List (Item R)) → u.sb ≡ it ∷ v
-    → moved F u Take_sb ≡ put_b (record u { sb = v }) (inst_does F At_b [] None u.b it)
-taken_sb {R = R} F u it v e = ap (λ l. elim l as (λ _. State R) [ [] ↦ u | x ∷ xs ↦ put_b (record u { sb = xs }) (inst_does F At_b [] None u.b x) ]) e
+bare_sa F s bare it v e = bare_ran F s bare Take_sa tt refl _ (rw (e, moved) refl)
 
 pub bare_sb : {R : Type 0} (F : Steps R) (s : Stage F) → all_of s ≡ [] → (it : Item R) (v : List (Item R)) → (shape F s).sb ≡ it ∷ v
     → (inst_does F At_b [] None (shape F s).b it).ran ≡ []
-bare_sb F s bare it v e = bare_ran F s bare Take_sb tt refl _ (ap (λ x. x.done) (taken_sb F (shape F s) it v e))
+bare_sb F s bare it v e = bare_ran F s bare Take_sb tt refl _ (rw (e, moved) refl)
 
 -- The links from the switch, at any seat.
 pub fresh_sa : {R : Type 0} (F : Steps R) (s : UnitSeat F) (it : Item R) (v : List (Item R)) (parts : List (Part R)) (refuse : Option Answer)

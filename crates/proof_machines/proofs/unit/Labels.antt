@@ -56,10 +56,10 @@ module _ {R : Type 0} (u : Unit) (o : Op) where
   said_foreign (Put ps) h = each_made _ (put_to o) (λ p none. none) ps h
   said_foreign (Release f) h =
       each-append (SentForeign {R = R} u) (map (forward_to o.dst) f) ((0, MoveMsg.Install o.num o.src o.dst) ∷ []) (each_made _ _ (λ p _. tt) f (each_any f))
-          (tt, tt)
+      (tt, tt)
   said_foreign (Give_back f) h =
       each-append (SentForeign {R = R} u) (map (forward_to o.src) f) ((0, MoveMsg.Fence_to o.num o.src) ∷ []) (each_made _ _ (λ p _. tt) f (each_any f))
-          (tt, tt)
+      (tt, tt)
   said_foreign said h = (tt, tt)
 
   has_none : (phase : MovePhase R) → Clean u phase → PhaseHas (Without u) (Any Answer) (Any (Option Answer)) phase

@@ -1,5 +1,7 @@
 -- Seats: a unit that the move covers, one that its destination owns already, one of a third instance. Each step leads from a seat to
 -- a seat, and without a message the move is over.
+use Rattle.std.specs.List.{list_all}
+use Rattle.proof_machines.proofs.unit.Bare.{to_source, to_dest, ca_kind, cb_kind}
 use Rattle.proof_machines.proofs.unit.Words.{ap, ◌≡◌, ℕ, Bool, true, false, List, ◌++◌, refl, sym, ◌∙◌, Where, At_b, At_c, Ran, Steps, Free, State, MachineStep}
 use Rattle.proof_machines.proofs.unit.Words.{moved, Stage, At_rest, shape, path, processed, all_of, loose, side_of, IsOrderedAs, Placed, Allowed, arrived_by}
 use Rattle.proof_machines.proofs.unit.Words.{never_true}
@@ -69,6 +71,17 @@ pub covered_stays : {R : Type 0} (F : Steps R) (s : UnitSeat F) (m : MachineStep
 unfolding seat_goes_on
 covered_stays F (Covered s) m a = refl
 covered_stays F s m a = refl
+
+-- what the controller sends to a side
+pub ca_seat : {R : Type 0} (F : Steps R) (s : UnitSeat F) → list_all to_source (seat_shape F s).ca ≡ true
+ca_seat F (Covered s) = ca_kind F s
+ca_seat F (Is_beside s) = ca_kind F s.base
+ca_seat F (Is_away s) = ca_kind F s.base
+
+pub cb_seat : {R : Type 0} (F : Steps R) (s : UnitSeat F) → list_all to_dest (seat_shape F s).cb ≡ true
+cb_seat F (Covered s) = cb_kind F s
+cb_seat F (Is_beside s) = cb_kind F s.base
+cb_seat F (Is_away s) = cb_kind F s.base
 
 -- no message anywhere: the move has ended, whichever unit looks
 pub seat_rests : {R : Type 0} (F : Steps R) (s : UnitSeat F) → Silent (seat_shape F s) → is_over (seat_shape F s).phase ≡ true

@@ -22,9 +22,9 @@ pub use Rattle.proof_machines.proofs.unit.Lists.{plains-passing, marked-passing,
 pub use Rattle.proof_machines.proofs.unit.Machine.{At_a, At_b, At_c, Ran, Steps, after, Item, Carry, Forward, Fence_to, idle, Phase, Idle, State, MachineStep}
 pub use Rattle.proof_machines.proofs.unit.Machine.{Begin, Arrive, Take_sa, Take_sb, Take_sc, Take_ac, Take_bc, Take_ca, Take_cb, Take_cs, moved, begun}
 pub use Rattle.proof_machines.proofs.unit.Machine.{switch_does, Over, on, joined, Part, Rule, Free, Drops, Buffers, Pass, Fence, Enable, Put, next, Where}
-pub use Rattle.proof_machines.proofs.unit.Machine.{Ended, is_nil, Piece, put, put_b, pick, or_own, Inst, inst_does, delete, put_a, Restore, Event, Put_no}
-pub use Rattle.proof_machines.proofs.unit.Machine.{Stream, Delete, Enabled, Deleted, Put_ok, Restored, Fenced, Install, Stray, ControllerTurn, Passing, Ending}
-pub use Rattle.proof_machines.proofs.unit.Machine.{Undoing, goes, words, from_source, part_back, from_destination, Did}
+pub use Rattle.proof_machines.proofs.unit.Machine.{Ended, is_nil, Piece, put, put_b, pick, or_own, Inst, inst_does, delete, Restore, Event, Put_no, Stream}
+pub use Rattle.proof_machines.proofs.unit.Machine.{Delete, Enabled, Deleted, Put_ok, Restored, Fenced, Install, Stray, ControllerTurn, Passing, Ending, Undoing}
+pub use Rattle.proof_machines.proofs.unit.Machine.{goes, words, from_source, part_back, from_destination, Did}
 pub use Rattle.proof_machines.proofs.unit.Stages.{Stage, shape, all_of, Allowed, Placed, arrived_by, Restore_goes, Restored_comes, Turn_goes, Turned_back}
 pub use Rattle.proof_machines.proofs.unit.Stages.{Returned, Fence_a, Fenced_back, Undone, GoesOn, At_rest, Streams, Is_wide, path, loose, times, Same}
 pub use Rattle.proof_machines.proofs.unit.Stages.{IsOrderedAs, Moved, rest, All_put, Hold_goes, Laying, Doorway, Is_shut, Is_asked, Is_agreed, Is_denied}

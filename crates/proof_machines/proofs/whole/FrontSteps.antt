@@ -106,7 +106,7 @@ module _ {R : Type 0} (S : Sys R) (A : Sharing S) (laws : IsSys S) (u : Unit) wh
         record { more = []; done = nothing_ran; standby = as_before (S.B.at u (w.standby y)) (fronts.standby y); sends = (tt, tt) }
     leaves wh fronts (ShareMsg.Sync n false cs) waits =
         let chunk = new_head (λ _ x. MsgFront S A laws u (ran_of S A u w.done) x) w.link fronts.links p y (ShareMsg.Sync n false cs) rest (no_input p y y0)
-            waits in
+        waits in
         record {
           more = [];
           done = nothing_ran;

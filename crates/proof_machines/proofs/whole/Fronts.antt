@@ -3,12 +3,12 @@
 use Rattle.proof_machines.proofs.net.Words.{◌≡◌, ℕ, Bool, true, false, Option, Some, None, List, [], ◌∷◌, ◌++◌, ◌⊎◌, inl, inr, refl, sym, ap, ◌∙◌, subst}
 use Rattle.proof_machines.proofs.net.Words.{append-nil, append_assoc, if◌then◌else◌, ◌&&◌, ◌==◌, option_to_list, option_map_or, Decides-eqb, State, idle}
 use Rattle.proof_machines.proofs.net.Words.{record_at, first, first_of_one, record_first, Kept, Nowhere, Is_live, On_way, Twice, runs, over, IsFront}
-use Rattle.proof_machines.proofs.net.Words.{runs-append, Sys, IsSys, process, everything, Seeing, node_at, done_u, GlobalAll, New, ShareMsg, EachNew, Sharing}
-use Rattle.proof_machines.proofs.net.Words.{shared_chunk, WholeWorld, moves_of, ran_of, same_unit, same_unit_equiv, same_unit-true, either_way, by_if, Unit}
+use Rattle.proof_machines.proofs.net.Words.{runs-append, Sys, IsSys, process, Seeing, node_at, done_u, GlobalAll, New, ShareMsg, EachNew, Sharing, shared_chunk}
+use Rattle.proof_machines.proofs.net.Words.{WholeWorld, moves_of, ran_of, same_unit, same_unit_equiv, same_unit-true, either_way, by_if, Unit}
 use Rattle.proof_machines.proofs.share.Share.{Ran}
 use Rattle.proof_machines.proofs.net.Readings.{fold, RecordOf}
 use Rattle.proof_machines.proofs.net.NewMessages.{EachSentNew}
-use Rattle.proof_machines.proofs.net.ShareLinks.{ran_of-append}
+use Rattle.std.proofs.lemmas.List.Elements.{filter-append}
 use Rattle.proof_machines.proofs.net.UnderStarts.{FrontBy}
 use Rattle.proof_machines.proofs.whole.WhereAll.{Came, WhereAll}
 use Rattle.proof_machines.proofs.whole.Readings.{fold_done, RecordsAll, By_moves, By_share, records_all}
@@ -89,7 +89,7 @@ module _ {R : Type 0} (S : Sys R) (A : Sharing S) (laws : IsSys S) (u : Unit) wh
   msg_more ds es m h = tt
 
   pub ran_more : (xs ys : List Ran) → ran_of S A u (xs ++ ys) ≡ ran_of S A u xs ++ ran_of S A u ys
-  ran_more xs ys = ran_of-append S A (record { unit = u; num = 0; home = 0; members = []; filter = everything }) xs ys
+  ran_more xs ys = filter-append (λ d. same_unit (S.packet_unit d.0) u) xs ys
 
   -- A live record
   at_node_so : (all : Option R) (z : Seeing) (x : State R) → LivesSo all x.a.live x.b.live x.c.live → (k : ℕ) → LiveSo all (node_at S z x k).live

@@ -92,9 +92,9 @@ module _ {R : Type 0} (S : Sys R) (A : Sharing S) (laws : IsSys S) (u : Unit) wh
             let members = to_members f h.is h.stage h.fits in
             let sees : share_seen S A z y (New (ShareMsg.Sync n false cs)) ≡ Some (Sync (record_at u cs)) = rw (on, label.0 on) refl in
             let head = ap (λ o. add o left) (sym sees)
-                ∙ heads S A laws z w (shape f h.stage) h.holds members y p (New (ShareMsg.Sync n false cs)) rest y0 y1 waits in
+            ∙ heads S A laws z w (shape f h.stage) h.holds members y p (New (ShareMsg.Sync n false cs)) rest y0 y1 waits in
             by_link (inst_from S A laws z w (shape f h.stage) h.holds members y p (New (ShareMsg.Sync n false cs)) rest y0 y1 waits (Sync (record_at u cs))
-                head)
+            head)
           where
             not_out : (its : List (Item R)) → its ≡ Sync (record_at u cs) ∷ left → (has x.members y ≡ false → its ≡ []) → has x.members y ≡ true
             not_out its is out = true_from_ne_false (has x.members y) (λ e. let never : Sync (record_at u cs) ∷ left ≡ [] = sym is ∙ out e in cc)

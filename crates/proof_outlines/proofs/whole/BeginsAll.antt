@@ -1,10 +1,10 @@
 -- The controller after a begin of a share, a move or a copy is that of the network with shares.
 use Rattle.proof_machines.proofs.NumberedLists.{find-append_own}
-use Rattle.proof_outlines.proofs.Words.{◌≡◌, ℕ, true, false, cond, Option, Some, None, List, [], ◌∷◌, ◌++◌, map, refl, sym, ap, ◌∙◌, subst, arith}
-use Rattle.proof_outlines.proofs.Words.{if◌then◌else◌, ◌==◌, filter_map, self, Filter, Packet, Site, Semantics, stored_of, instance_node, MovePlan}
-use Rattle.proof_outlines.proofs.Words.{move_at_start, CopyPlan, SharePlan, Operation, Move, Copy, Share, ControllerState, move_begin, copy_begin, share_begin}
-use Rattle.proof_outlines.proofs.Words.{begin_step, place_of, Open, MoveAsked, find_op, new_op, begin_sends, find_old, find_new, Any, New, ShareAsked, ShareMsg}
-use Rattle.proof_outlines.proofs.Words.{OpenShare, find_share, new_share, as_old, Order}
+use Rattle.proof_outlines.proofs.Words.{◌≡◌, ℕ, false, cond, Option, Some, None, List, [], ◌∷◌, ◌++◌, map, refl, sym, ap, ◌∙◌, subst, arith, ◌==◌, filter_map}
+use Rattle.proof_outlines.proofs.Words.{self, Filter, Packet, Site, Semantics, stored_of, instance_node, MovePlan, move_at_start, CopyPlan, SharePlan}
+use Rattle.proof_outlines.proofs.Words.{Operation, Move, Copy, Share, ControllerState, move_begin, copy_begin, share_begin, begin_step, place_of, Open}
+use Rattle.proof_outlines.proofs.Words.{MoveAsked, find_op, new_op, begin_sends, find_old, find_new, Any, New, ShareAsked, ShareMsg, OpenShare, find_share}
+use Rattle.proof_outlines.proofs.Words.{new_share, as_old, Order}
 use Rattle.std.specs.FinMap as finite
 use Rattle.copy_share.specs.Copy as copy
 use Rattle.copy_share.specs.Share as share

@@ -1,11 +1,11 @@
 -- The controller's step on a message of a number that is no open share's: of a copy or of nothing, neither moves nor shares change; of a move
 -- it is that of the network of moves.
 use Rattle.proof_machines.proofs.NumberedLists.{found_number}
-use Rattle.proof_outlines.proofs.Words.{◌≡◌, ℕ, true, false, cond, Option, Some, None, List, [], ◌∷◌, map, refl, sym, ap, ◌∙◌, subst, if◌then◌else◌, ◌==◌}
-use Rattle.proof_outlines.proofs.Words.{unwrap_or, Decides-eqb, self, Packet, Site, Semantics, FullCell, stored_of, Answer, Msg, switch_node, instance_node}
-use Rattle.proof_outlines.proofs.Words.{MoveState, Store, row_in, CopyPhase, Getting, Keeping, CopyPlan, CopyState, CopyRow, Operation, Move, Copy, Turn}
-use Rattle.proof_outlines.proofs.Words.{turn_of, turn_of_move, turn_of_copy, ControllerState, Step, still, after_turn, takes_turn, hand_step, Open, find_op}
-use Rattle.proof_outlines.proofs.Words.{found, find_write_other, OpenShare, find_share, as_old, split, by_if, MoveMsg}
+use Rattle.proof_outlines.proofs.Words.{◌≡◌, ℕ, false, cond, Option, Some, None, List, [], ◌∷◌, map, refl, sym, ap, ◌∙◌, subst, ◌==◌, unwrap_or, Decides-eqb}
+use Rattle.proof_outlines.proofs.Words.{self, Packet, Site, Semantics, FullCell, stored_of, Answer, Msg, switch_node, instance_node, MoveState, Store, row_in}
+use Rattle.proof_outlines.proofs.Words.{CopyPhase, Getting, Keeping, CopyPlan, CopyState, CopyRow, Operation, Move, Copy, Turn, turn_of, turn_of_move}
+use Rattle.proof_outlines.proofs.Words.{turn_of_copy, ControllerState, Step, still, after_turn, takes_turn, hand_step, Open, find_op, found, find_write_other}
+use Rattle.proof_outlines.proofs.Words.{OpenShare, find_share, as_old, by_if, MoveMsg}
 use Rattle.std.specs.FinMap as finite
 use Rattle.move_op.specs.Move as move
 use Rattle.copy_share.specs.Copy as copy
