@@ -1,10 +1,9 @@
 -- The answer to each command of a completed run has its true cause, in the words of the headline.
 use Rattle.run_headline.proofs.Words.{◌≡◌, ℕ, ◌+◌, ◌<◌, Bool, true, false, not, ◌&&◌, ◌||◌, Option, Some, None, List, [], ◌∷◌, map, refl, sym, ap, ◌∙◌, subst}
 use Rattle.run_headline.proofs.Words.{arith, ◌==◌, nat_lt, option_map, if◌then◌else◌, slice_index_or, AllByRecursion, list_any, position_or_len, option_map_or}
-use Rattle.run_headline.proofs.Words.{Global, or-true, nat_tests, Decides-ltb, and_parts, Filter, FunctionLaws, Semantics, Answer, Command, Order, Move, Copy}
-use Rattle.run_headline.proofs.Words.{Share, Msg, Note, unknown_in, Choice, Network, run, Config, Node, answers_of, before_command, has_answered}
-use Rattle.run_headline.proofs.Words.{is_of_command, commands, order_numbered, course_of, job_of, node_step, started_with, is_refusal, answer_in, is_noted}
-use Rattle.run_headline.proofs.Words.{by_number, is_answered, IsCompleted, subject, Setting, setting_of}
+use Rattle.run_headline.proofs.Words.{or-true, nat_tests, Decides-ltb, and_parts, Filter, Answer, Command, Order, Move, Copy, Share, Msg, Note, unknown_in}
+use Rattle.run_headline.proofs.Words.{Network, run, Node, answers_of, before_command, has_answered, is_of_command, commands, order_numbered, course_of, job_of}
+use Rattle.run_headline.proofs.Words.{started_with, is_refusal, answer_in, is_noted, by_number, is_answered, subject}
 use Rattle.std.specs.Prelude.{option_and_then, slice_index}
 use Rattle.std.specs.List.{AllZip}
 use Rattle.flow_filter.specs.Filter.{meets}
@@ -23,6 +22,7 @@ use Rattle.run_headline.specs.Causes.{AreTrue, HasCause, orders_meet}
 use Rattle.run_headline.proofs.AnswerLines.{IsOnly, Line, answer_to, found_any, only, so_answered}
 use Rattle.run_headline.proofs.CommandOrder.{run_in_turn}
 use Rattle.run_headline.proofs.FoundNumbers.{IsFound, all_found}
+use Rattle.run_headline.proofs.CompletedRuns.{CompletedRun, world_of}
 
 -- what began before the first note of a command began
 began_before : (op k : ℕ) (log : List Note) → commands_noted.is_begun k (before_command op log) ≡ true → commands_noted.is_begun k log ≡ true
@@ -131,13 +131,12 @@ beside P there alone holds (c ∷ cs) (x ∷ xs) same all only =
     let rest : map (λ y. y.0) xs ≡ map (λ d. d.op) cs = cc in
     ((number, holds c x.1 all.0 (subst (λ k. alone (k, x.1)) number only.0)), beside P there alone holds cs xs rest all.1 only.1)
 
-module _ {R : Type 0} (F : Type 0) (f : Semantics R) (laws : FunctionLaws f) (alloc : Global) (c : Config) (items : List Msg) (choices : List Choice)
-    (is : IsCompleted F f alloc c items choices) where
-  abbrev setting : Setting F R
-  setting = setting_of f laws alloc c items is.is_input
+module _ {F R : Type 0} (completed : CompletedRun F R) where
+  open completed use {setting, choices, is}
+  open setting use {function as f, alloc, config as c, items}
 
   abbrev w : Network (Node F R) Msg Note
-  w = run (node_step f) choices (started_with alloc c items)
+  w = world_of setting choices
 
   abbrev lines_told : List Line
   lines_told = by_number answer_in w.log

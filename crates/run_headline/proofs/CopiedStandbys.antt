@@ -1,12 +1,11 @@
 -- What each copy that is done took stands by at its destination at the end of a completed run, or what is newer; with all else that stands by.
 use Rattle.run_headline.proofs.Words.{◌≡◌, ℕ, ◌+◌, ◌≤◌, Bool, true, false, ◌||◌, not, cond, Option, Some, None, List, [], ◌∷◌, ◌++◌, length, map, take, refl}
-use Rattle.run_headline.proofs.Words.{sym, ap, ◌∙◌, subst, arith, if◌then◌else◌, ◌==◌, filter, filter_map, find, is_some, option_map, option_to_list}
-use Rattle.run_headline.proofs.Words.{unwrap_or, zip, AllByRecursion, list_any, option_map_or, bytes_eq, Global, Decides-eqb, position-Some, Filter, Packet}
-use Rattle.run_headline.proofs.Words.{has_twice, place_of, FunctionLaws, Semantics, takes, Answer, Command, Order, Move, Copy, Share, Msg, Note, unknown_in}
-use Rattle.run_headline.proofs.Words.{Choice, Network, IsRun, run, Config, Node, answers_of, is_begun, IsProper, commands, no_packet, order_numbered}
-use Rattle.run_headline.proofs.Words.{packet_numbered, packets, course_of, job_of, dones_in, done_where, node_ready, node_step, first_owner, owner, standby_at}
-use Rattle.run_headline.proofs.Words.{StandsBy, started_with, by_unit, all_fit, is_answered, is_done, is_covered, packets_of, IsAsNew, records_under}
-use Rattle.run_headline.proofs.Words.{IsCompleted, done_in, Setting, setting_of}
+use Rattle.run_headline.proofs.Words.{sym, ap, ◌∙◌, subst, arith, if◌then◌else◌, ◌==◌, filter, filter_map, find, is_some, option_map, option_to_list, unwrap_or}
+use Rattle.run_headline.proofs.Words.{zip, AllByRecursion, list_any, option_map_or, bytes_eq, Decides-eqb, position-Some, Filter, Packet, has_twice, place_of}
+use Rattle.run_headline.proofs.Words.{takes, Answer, Command, Order, Move, Copy, Share, Msg, Note, unknown_in, Network, IsRun, run, Node, answers_of, is_begun}
+use Rattle.run_headline.proofs.Words.{IsProper, commands, no_packet, order_numbered, packet_numbered, packets, course_of, job_of, dones_in, done_where}
+use Rattle.run_headline.proofs.Words.{node_ready, node_step, first_owner, owner, standby_at, StandsBy, by_unit, all_fit, is_answered, is_done, is_covered}
+use Rattle.run_headline.proofs.Words.{packets_of, IsAsNew, records_under, done_in}
 use Rattle.std.proofs.Common.{append_assoc, length-append}
 use Rattle.std.specs.List.{before_first}
 use Rattle.std.proofs.lemmas.List.Elements.{recursion_from_All}
@@ -32,6 +31,7 @@ use Rattle.run_headline.proofs.InstanceLines.{done_unrefused, fronts, here, of, 
 use Rattle.run_headline.proofs.RecordsUnder.{under_name}
 use Rattle.run_headline.proofs.UnitOutputs.{IsThere, mine, part}
 use Rattle.run_headline.proofs.UnmovedUnits.{not_covered, owner_is}
+use Rattle.run_headline.proofs.CompletedRuns.{CompletedRun, world_of, start}
 
 -- The log before a note of what was given, and the lines of packets that were processed by then.
 module _ {X : Type 0} (p : X → Bool) where
@@ -99,16 +99,15 @@ both_known names a b none = by_places (place_of names a) (place_of names b) refl
         let never : Some b ≡ None = sym (ap (λ o. if not (is_some o) then Some b else None) q) ∙ inner in
         cc
 
-module _ {R : Type 0} (F : Type 0) (f : Semantics R) (laws : FunctionLaws f) (alloc : Global) (c : Config) (items : List Msg) (choices : List Choice)
-    (is : IsCompleted F f alloc c items choices) where
-  abbrev setting : Setting F R
-  setting = setting_of f laws alloc c items is.is_input
+module _ {F R : Type 0} (completed : CompletedRun F R) where
+  open completed use {setting, choices, is}
+  open setting use {function as f, config as c, items}
 
   abbrev first : Network (Node F R) Msg Note
-  first = started_with alloc c items
+  first = start setting
 
   abbrev w : Network (Node F R) Msg Note
-  w = run (node_step f) choices first
+  w = world_of setting choices
 
   -- a line of a packet of the unit is of a packet that the unit has
   own_line : (u : units.Unit) (p : ℕ) (ps : List Packet) → AllByRecursion (IsThere f c items u) ps
@@ -127,7 +126,7 @@ module _ {R : Type 0} (F : Type 0) (f : Semantics R) (laws : FunctionLaws f) (al
 
   -- A copy of units that is done.
   module _ (once : has_twice c.names ≡ false) (front behind : List Msg) (k : Command) (whole : items ≡ front ++ msg.InCommand k ∷ behind)
-      (order : order_numbered items k.op ≡ Some k.what) (is_answer : is_answered is_done (said F f laws alloc c items choices is).answers k.op ≡ true)
+      (order : order_numbered items k.op ≡ Some k.what) (is_answer : is_answered is_done (said completed).answers k.op ≡ true)
       (source destination : List ℕ) (taken : Filter) (what_is : k.what ≡ Copy source destination (Some taken)) where
     answer : (a : Answer) × (answers_of k.op w.log ≡ a ∷ [])
     answer = answer_to w.log is.promises.answers.answered_once items is.answers k.op k.what order
@@ -139,7 +138,7 @@ module _ {R : Type 0} (F : Type 0) (f : Semantics R) (laws : FunctionLaws f) (al
     done_is = answer.1 ∙ ap (λ a. a ∷ []) (done_only answer.0 is_one)
 
     begun : is_begun k.op w.log ≡ true
-    begun = began_if F f laws alloc c items choices is k.op k.what answer.0 order answer.1 (done_unrefused answer.0 is_one)
+    begun = began_if completed k.op k.what answer.0 order answer.1 (done_unrefused answer.0 is_one)
 
     known : BothKnown c.names source destination
     known = both_known c.names source destination
@@ -175,19 +174,18 @@ module _ {R : Type 0} (F : Type 0) (f : Semantics R) (laws : FunctionLaws f) (al
     log_is = let it = after_export k.op w.log in (it.0, it.1 ∙ ap (λ l. l ++ it.0) copied.gave)
 
     -- A unit of it that stays at its source.
-    module _ (u : units.Unit) (on : takes taken u ≡ true)
-        (at : StaysAt (of F f laws alloc c items choices is) (said F f laws alloc c items choices is) u source) where
+    module _ (u : units.Unit) (on : takes taken u ≡ true) (at : StaysAt (of completed) (said completed) u source) where
       abbrev went : List ℕ
       went = folds.processed_of f c items u given_at.log
 
-      few : dones_of (of F f laws alloc c items choices is) (said F f laws alloc c items choices is) u moment ≤ length went
+      few : dones_of (of completed) (said completed) u moment ≤ length went
       few =
-          let own = (λ (p : ℕ). own_line u p (packets items) (packets_found F f laws alloc c items choices is)) in
-          let less = few_dones (λ p. list_any (λ q. q.number == p) (packets_of (of F f laws alloc c items choices is) u)) (mine f c items u) own given_at.log in
-          subst (λ ds. length (filter (λ d. list_any (λ q. q.number == d.0) (packets_of (of F f laws alloc c items choices is) u)) ds) ≤ length went)
+          let own = (λ (p : ℕ). own_line u p (packets items) (packets_found completed)) in
+          let less = few_dones (λ p. list_any (λ q. q.number == p) (packets_of (of completed) u)) (mine f c items u) own given_at.log in
+          subst (λ ds. length (filter (λ d. list_any (λ q. q.number == d.0) (packets_of (of completed) u)) ds) ≤ length went)
           (sym (ap (λ l. take moment (filter_map done_in l)) log_is.1 ∙ first_dones given_at.log log_is.0)) less
 
-      off : is_covered (of F f laws alloc c items choices is) (said F f laws alloc c items choices is).answers u ≡ false
+      off : is_covered (of completed) (said completed).answers u ≡ false
       off = not_covered f c items w.log is.promises.answers is.answers u at.unmoved
 
       owned : owner c items u given_at.log ≡ known.first
@@ -198,26 +196,25 @@ module _ {R : Type 0} (F : Type 0) (f : Semantics R) (laws : FunctionLaws f) (al
           at_first ∙ sym same
 
       abbrev under : List R
-      under = records_under u destination (standbys F f laws alloc c items choices is)
+      under = records_under u destination (standbys completed)
 
       under_is : under ≡ option_to_list (standby_at w known.second u)
       under_is =
           let place = position-Some (λ other. bytes_eq other destination) c.names known.second [] known.second_is in
-          let nodes = here F f laws alloc c items choices is in
-          ap (λ l. records_under u destination (by_unit false l)) (told_is F f laws alloc c items choices is)
+          let nodes = here completed in
+          ap (λ l. records_under u destination (by_unit false l)) (told_is completed)
           ∙ under_name u destination false c.names nodes.instances known.second nodes.many once place.0 place.1
           ∙ ap option_to_list (sym (nodes.stands u known.second))
 
       abbrev IsNew : Type 0
-      IsNew = IsAsNew (of F f laws alloc c items choices is) u
-          (dones_of (of F f laws alloc c items choices is) (said F f laws alloc c items choices is) u moment) under
+      IsNew = IsAsNew (of completed) u (dones_of (of completed) (said completed) u moment) under
 
       -- what stands by is the record of a front that is long enough
       by_standby : (s : StandsBy (job_of f c items) w known.second u) → length went ≤ length s.front → IsNew
       by_standby s long = record {
         count = length s.front;
         enough = (let less = few in omega (arith, less, long));
-        records_are = under_is ∙ ap option_to_list (s.there ∙ sym (stands_after F f laws alloc c items choices is known.second u s off));
+        records_are = under_is ∙ ap option_to_list (s.there ∙ sym (stands_after completed known.second u s off));
       }
 
       -- a packet leaves a record
@@ -252,19 +249,17 @@ module _ {R : Type 0} (F : Type 0) (f : Semantics R) (laws : FunctionLaws f) (al
   same_names e = (cc, cc, cc)
 
   brought_by : has_twice c.names ≡ false → (front behind : List Msg) (k : Command) → items ≡ front ++ msg.InCommand k ∷ behind
-      → order_numbered items k.op ≡ Some k.what
-      → is_answered is_done (said F f laws alloc c items choices is).answers k.op ≡ true → (what : Order) → k.what ≡ what
-      → HasBrought (of F f laws alloc c items choices is) (said F f laws alloc c items choices is) (standbys F f laws alloc c items choices is)
-      (k, length (packets front))
+      → order_numbered items k.op ≡ Some k.what → is_answered is_done (said completed).answers k.op ≡ true → (what : Order) → k.what ≡ what
+      → HasBrought (of completed) (said completed) (standbys completed) (k, length (packets front))
   brought_by once front behind k whole order is_answer (Copy source destination (Some taken)) what_is = record {
     moment = moment once front behind k whole order is_answer source destination taken what_is;
     late = late once front behind k whole order is_answer source destination taken what_is;
     stands = λ s d t u same on at. (let e = same_names (sym same ∙ what_is) in
-        subst (λ n. IsAsNew (of F f laws alloc c items choices is) u (dones_of (of F f laws alloc c items choices is)
-        (said F f laws alloc c items choices is) u (moment once front behind k whole order is_answer source destination taken what_is))
-        (records_under u n (standbys F f laws alloc c items choices is))) (sym e.1)
+        subst (λ n. IsAsNew (of completed) u (dones_of (of completed)
+        (said completed) u (moment once front behind k whole order is_answer source destination taken what_is))
+        (records_under u n (standbys completed))) (sym e.1)
         (as_new once front behind k whole order is_answer source destination taken what_is u (ap (λ q. takes q u) (sym e.2) ∙ on)
-        (subst (StaysAt (of F f laws alloc c items choices is) (said F f laws alloc c items choices is) u) e.0 at)));
+        (subst (StaysAt (of completed) (said completed) u) e.0 at)));
   }
   brought_by once front behind k whole order is_answer what what_is = record {
     moment = length (packets front);
@@ -273,8 +268,7 @@ module _ {R : Type 0} (F : Type 0) (f : Semantics R) (laws : FunctionLaws f) (al
   }
 
   abbrev Brought : Command × ℕ → Type 0
-  Brought e = is_answered is_done (said F f laws alloc c items choices is).answers e.0.op ≡ true
-      → HasBrought (of F f laws alloc c items choices is) (said F f laws alloc c items choices is) (standbys F f laws alloc c items choices is) e
+  Brought e = is_answered is_done (said completed).answers e.0.op ≡ true → HasBrought (of completed) (said completed) (standbys completed) e
 
   -- command by command
   all_brought : has_twice c.names ≡ false → (front rest : List Msg) (n : ℕ) → items ≡ front ++ rest → n ≡ length (packets front)
@@ -285,8 +279,7 @@ module _ {R : Type 0} (F : Type 0) (f : Semantics R) (laws : FunctionLaws f) (al
       (let more = ap length (packets-append front (msg.InPacket p ∷ [])) in
       let both = length-append (packets front) (p ∷ []) in omega (arith, count, more, both)) found
   all_brought once front (msg.InCommand k ∷ rest) n whole count found = (
-    λ is_answer. subst (λ m. HasBrought (of F f laws alloc c items choices is) (said F f laws alloc c items choices is)
-        (standbys F f laws alloc c items choices is) (k, m)) (sym count)
+    λ is_answer. subst (λ m. HasBrought (of completed) (said completed) (standbys completed) (k, m)) (sym count)
         (brought_by once front rest k whole (ap (option_map (λ x. x.what)) found.0) is_answer k.what refl),
     all_brought once (front ++ msg.InCommand k ∷ []) rest n (whole ∙ sym (append_assoc front (msg.InCommand k ∷ []) rest))
         (let more = ap length (packets-append front (msg.InCommand k ∷ [])) in
@@ -296,10 +289,10 @@ module _ {R : Type 0} (F : Type 0) (f : Semantics R) (laws : FunctionLaws f) (al
       all_brought once (front ++ m ∷ []) rest n (whole ∙ sym (append_assoc front (m ∷ []) rest))
       (let more = ap length (packets-append front (m ∷ [])) in let both = length-append (packets front) [] in omega (arith, count, more, both)) found
 
-  pub are_standbys : AreStandbys (of F f laws alloc c items choices is) (said F f laws alloc c items choices is) (standbys F f laws alloc c items choices is)
+  pub are_standbys : AreStandbys (of completed) (said completed) (standbys completed)
   are_standbys = record {
-    fronts = fronts F f laws alloc c items choices is;
-    shared = λ once. shared F f laws alloc c items choices is once (commands items) (all_found (λ k. k.op) 0 (commands items) is.is_input.ops)
+    fronts = fronts completed;
+    shared = λ once. shared completed once (commands items) (all_found (λ k. k.op) 0 (commands items) is.is_input.ops)
         (recursion_from_All (λ k. IsProper f.kind k.what) (commands items) is.is_input.orders);
     copied = λ once. all_brought once [] items 0 refl refl (all_found (λ k. k.op) 0 (commands items) is.is_input.ops);
   }

@@ -1,11 +1,11 @@
 -- The headline of every completed run.
 use Rattle.run_headline.proofs.Words.{◌≡◌, ℕ, zero, suc, ◌+◌, ◌<◌, Bool, true, false, Option, Some, None, List, [], ◌∷◌, length, map, get_or, refl, sym, ap}
 use Rattle.run_headline.proofs.Words.{◌∙◌, arith, if◌then◌else◌, filter_map, option_to_list, slice_get, zip, filter, count_by, flat_map, list_any, sum_by}
-use Rattle.run_headline.proofs.Words.{bytes_eq, Global, length-map, Packet, FunctionLaws, Semantics, kept_after, Msg, Note, instance_node, InstanceState}
-use Rattle.run_headline.proofs.Words.{Choice, Network, run, run_world, Config, Node, Instance, times, packet_numbered, packets, answer_in, node_ready}
-use Rattle.run_headline.proofs.Words.{node_step, numbered_times, live_at, standby_in, started_with, is_loose, NamedInstance, by_number, by_unit, named_records}
+use Rattle.run_headline.proofs.Words.{bytes_eq, length-map, Packet, kept_after, Msg, Note, instance_node, InstanceState}
+use Rattle.run_headline.proofs.Words.{Network, run, run_world, Node, Instance, times, packet_numbered, packets, answer_in, node_ready}
+use Rattle.run_headline.proofs.Words.{node_step, numbered_times, live_at, standby_in, is_loose, NamedInstance, by_number, by_unit, named_records}
 use Rattle.run_headline.proofs.Words.{instance_under, named_instances, node_of, all_fit, count_at_start, run_beside, start_world, Headline, is_covered}
-use Rattle.run_headline.proofs.Words.{packets_of, record_after, records_of, Subject, IsCompleted, lines, subject, Setting, setting_of}
+use Rattle.run_headline.proofs.Words.{packets_of, record_after, records_of, Subject, lines, subject}
 use Rattle.std.specs.FinMap as finite
 use Rattle.nf_function.specs.declared.unit.Unit as units
 use Rattle.net_world.specs.declared.node.Node.TheVariants.{Switch, Controller}
@@ -21,6 +21,7 @@ use Rattle.run_headline.proofs.LineNumbers.{any_own, dones_times, has_some, none
 use Rattle.run_headline.proofs.SummaryCounts.{counts_each, names_under}
 use Rattle.run_headline.proofs.UnitOutputs.{folds_same, mine, part, processed_all, tests_agree, unit_outputs}
 use Rattle.run_headline.proofs.UnitStates.{each_kept, kept_nth, kept_of, live_nth, live_of, none_live, nothing, one_live, sorted_kept, under_names}
+use Rattle.run_headline.proofs.CompletedRuns.{CompletedRun, world_of, start}
 
 -- The nodes of a world: a switch, a controller, and instances.
 module _ {F R : Type 0} where
@@ -88,16 +89,15 @@ module _ {F R : Type 0} where
         there = λ i y found d. ap (λ l. get_or l (suc (suc i)) d) whole ∙ found_nth are.instances i y found d;
       }
 
-module _ {R : Type 0} (F : Type 0) (f : Semantics R) (laws : FunctionLaws f) (alloc : Global) (c : Config) (items : List Msg) (choices : List Choice)
-    (is : IsCompleted F f alloc c items choices) where
-  abbrev setting : Setting F R
-  setting = setting_of f laws alloc c items is.is_input
+module _ {F R : Type 0} (completed : CompletedRun F R) where
+  open completed use {setting, choices, is}
+  open setting use {function as f, config as c, items}
 
   abbrev first : Network (Node F R) Msg Note
-  first = started_with alloc c items
+  first = start setting
 
   abbrev pub w : Network (Node F R) Msg Note
-  w = run (node_step f) choices first
+  w = world_of setting choices
 
   abbrev of : Subject R
   of = subject f c items
@@ -183,7 +183,7 @@ module _ {R : Type 0} (F : Type 0) (f : Semantics R) (laws : FunctionLaws f) (al
     outs = is.outs;
     dones = λ n. dones_times n w.log ∙ all_done f c items w.log is.completed.each_once n ∙ ap (times n) is.completed.all_came
         ∙ sym (numbered_times (λ p. p.number) n (packets items));
-    answers = answers_true F f laws alloc c items choices is;
+    answers = answers_true completed;
     one_state = one_state;
     outputs = λ u off. unit_outputs setting w is.promises is.completed u (in_turn u off) is.outs;
     record_is = record_is;

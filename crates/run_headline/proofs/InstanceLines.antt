@@ -1,13 +1,13 @@
 -- What the report of every completed run says of its instances: their tallies, and the records that stand by, each by itself and with shares.
 use Rattle.run_headline.proofs.Words.{◌≡◌, ◌≢◌, ℕ, zero, suc, ◌+◌, ◌<◌, ◌≤◌, Bool, true, false, not, Option, Some, None, List, [], ◌∷◌, ◌++◌, length, map}
 use Rattle.run_headline.proofs.Words.{take, refl, sym, ap, ◌∙◌, subst, slice_index, arith, if◌then◌else◌, ◌==◌, filter_map, find, is_some, option_map}
-use Rattle.run_headline.proofs.Words.{option_to_list, slice_get, zip, AllByRecursion, list_any, bytes_eq, Global, or_parts, Decides-eqb, nat_tests}
-use Rattle.run_headline.proofs.Words.{position-Some, Filter, Packet, has_twice, place_of, FunctionLaws, Semantics, takes, same_unit-true, Answer, Command}
-use Rattle.run_headline.proofs.Words.{Order, Move, Copy, Share, Msg, Note, instance_node, InstanceState, Choice, Network, run, at, run_world, has, Config}
+use Rattle.run_headline.proofs.Words.{option_to_list, slice_get, zip, AllByRecursion, list_any, bytes_eq, or_parts, Decides-eqb, nat_tests}
+use Rattle.run_headline.proofs.Words.{position-Some, Filter, Packet, has_twice, place_of, takes, same_unit-true, Answer, Command}
+use Rattle.run_headline.proofs.Words.{Order, Move, Copy, Share, Msg, Note, instance_node, InstanceState, Network, run, at, run_world, has}
 use Rattle.run_headline.proofs.Words.{Node, is_begun, IsProper, commands, order_numbered, packets, dones_in, done_where, node_ready, node_step, is_home, owner}
 use Rattle.run_headline.proofs.Words.{live_at, job_of, standby_at, StandsBy, started_with, is_refusal, unit_fits, NamedInstance, NamedRecord, by_unit}
 use Rattle.run_headline.proofs.Words.{instance_under, named_instances, run_beside, start_world, count_at_start, given, is_answered, is_done, ReportLines}
-use Rattle.run_headline.proofs.Words.{is_covered, packets_of, record_after, Subject, IsAsNew, records_under, IsCompleted, lines, subject, Setting, setting_of}
+use Rattle.run_headline.proofs.Words.{is_covered, packets_of, record_after, Subject, IsAsNew, records_under, lines, subject}
 use Rattle.std.specs.List.{take-map}
 use Rattle.std.proofs.lemmas.List.{take_at}
 use Rattle.nf_function.specs.declared.unit.Unit as units
@@ -34,6 +34,7 @@ use Rattle.run_headline.proofs.SortedParts.{all_filter}
 use Rattle.run_headline.proofs.TallyLines.{has_counts}
 use Rattle.run_headline.proofs.UnitOutputs.{IsThere, folds_numbers, part, processed_all, those_numbers}
 use Rattle.run_headline.proofs.UnitStates.{kept_nth}
+use Rattle.run_headline.proofs.CompletedRuns.{CompletedRun, world_of}
 
 -- The first of a list.
 take_get : (n i : ℕ) (xs : List ℕ) → i < n → i < length xs → slice_get (take n xs) i ≡ Some (slice_index xs i)
@@ -79,13 +80,12 @@ told_nth (name ∷ names) [] i x found = cc
 told_nth (name ∷ names) (y ∷ xs) zero x found = (let same : instance_under (name, y) ≡ x = cc in (y, refl, ap (λ z. z.slots) same, omega arith))
 told_nth (name ∷ names) (y ∷ xs) (suc i) x found = (let rest = told_nth names xs i x found in let low = rest.3 in (rest.0, rest.1, rest.2, omega (arith, low)))
 
-module _ {R : Type 0} (F : Type 0) (f : Semantics R) (laws : FunctionLaws f) (alloc : Global) (c : Config) (items : List Msg) (choices : List Choice)
-    (is : IsCompleted F f alloc c items choices) where
-  abbrev setting : Setting F R
-  setting = setting_of f laws alloc c items is.is_input
+module _ {F R : Type 0} (completed : CompletedRun F R) where
+  open completed use {setting, choices, is}
+  open setting use {function as f, alloc, config as c, items}
 
   abbrev w : Network (Node F R) Msg Note
-  w = run (node_step f) choices (started_with alloc c items)
+  w = world_of setting choices
 
   abbrev pub of : Subject R
   of = subject f c items
@@ -100,7 +100,7 @@ module _ {R : Type 0} (F : Type 0) (f : Semantics R) (laws : FunctionLaws f) (al
   standbys = by_unit false there
 
   pub here : AreNodes w.nodes (length c.names)
-  here = nodes F f laws alloc c items choices is
+  here = nodes completed
 
   pub told_is : there ≡ map instance_under (zip c.names here.instances)
   told_is = ap (λ l. map instance_under (zip c.names l)) here.in_order
@@ -116,7 +116,7 @@ module _ {R : Type 0} (F : Type 0) (f : Semantics R) (laws : FunctionLaws f) (al
   has_tally i x found =
       let one = told_nth c.names here.instances i x (ap (λ l. slice_get l i) (sym told_is) ∙ found) in
       let same : one.0.tally.slots ≡ x.slots = one.2 in
-      let counts = has_counts F f laws alloc c items choices is i one.0 one.3 (here.there i one.0 one.1) in
+      let counts = has_counts completed i one.0 one.3 (here.there i one.0 one.1) in
       record {
         low = one.3;
         long = subst (λ slots. i < length slots) same counts.low;
@@ -180,7 +180,7 @@ module _ {R : Type 0} (F : Type 0) (f : Semantics R) (laws : FunctionLaws f) (al
     begun : is_begun op w.log ≡ true
     begun =
         let one = answer_to w.log is.promises.answers.answered_once items is.answers op (Share (home ∷ others) taken) order in
-        began_if F f laws alloc c items choices is op (Share (home ∷ others) taken) one.0 order one.1
+        began_if completed op (Share (home ∷ others) taken) one.0 order one.1
         (done_unrefused one.0 (answered_so is_done one.0 op w.log one.1 is_answer))
 
     known : find (λ name. not (is_some (place_of c.names name))) (home ∷ others) ≡ None

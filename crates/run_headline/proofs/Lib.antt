@@ -15,6 +15,7 @@ pub mod OwnTallies
 pub mod TallyRuns
 pub mod TallyLines
 pub mod RecordsUnder
+pub mod CompletedRuns
 pub mod HeadlineRuns
 pub mod SharedStandbys
 pub mod InstanceLines

@@ -6,6 +6,7 @@ use Rattle.run_headline.proofs.Words.{IsCompleted, done_in, lines, subject}
 use Rattle.run_report.specs.Lines.{answer_lines, head_lines, live_line, packet_lines, record_lines, report_text, summary_lines, whole_lines}
 use Rattle.run_headline.specs.Text.{HasHeadline, lines_text}
 use Rattle.run_headline.specs.Law.{HeadlineLaw}
+use Rattle.run_headline.proofs.CompletedRuns.{CompletedRun, setting_of, world_of}
 use Rattle.run_headline.proofs.HeadlineRuns.{headline, lives, named}
 use Rattle.run_headline.proofs.CopiedStandbys.{are_standbys}
 use Rattle.run_headline.proofs.InstanceLines.{tallies}
@@ -45,25 +46,28 @@ module _ {F R : Type 0} (f : Semantics R) (c : Config) (items : List Msg) (head 
   its_text true = summary_is
   its_text false = text_is
 
-module _ {R : Type 0} (F : Type 0) (f : Semantics R) (laws : FunctionLaws f) (alloc : Global) (c : Config) (items : List Msg) (choices : List Choice) where
+module _ {F R : Type 0} (completed : CompletedRun F R) where
+  open completed use {setting, choices}
+  open setting use {function as f, config as c, items}
+
   abbrev end : Network (Node F R) Msg Note
-  end = run (node_step f) choices (started_with alloc c items)
+  end = world_of setting choices
 
   -- the report of a completed run has the lines of the headline
-  reported_run : (is : IsCompleted F f alloc c items choices) (head : Head) → head.names ≡ c.names → (summary : Bool)
-      → HasHeadline (subject f c items) head summary (report_text f head summary end)
-  reported_run is head names summary = record {
+  reported_run : (head : Head) → head.names ≡ c.names → (summary : Bool) → HasHeadline (subject f c items) head summary (report_text f head summary end)
+  reported_run head names summary = record {
     lines = lines f c items end;
-    headline = headline F f laws alloc c items choices is;
+    headline = headline completed;
     standbys = by_unit false (named_instances c.names end.nodes);
-    are_standbys = are_standbys F f laws alloc c items choices is;
+    are_standbys = are_standbys completed;
     told = named_instances c.names end.nodes;
-    named = named F f laws alloc c items choices is;
-    lives = lives F f laws alloc c items choices is;
-    tallies = tallies F f laws alloc c items choices is;
+    named = named completed;
+    lives = lives completed;
+    tallies = tallies completed;
     text_is = its_text f c items head end names summary;
   }
 
 -- so each has
 pub reported : {R : Type 0} (F : Type 0) (f : Semantics R) → FunctionLaws f → HeadlineLaw F f
-reported F f laws alloc c items choices is head names summary = reported_run F f laws alloc c items choices is head names summary
+reported F f laws alloc c items choices is head names summary =
+    reported_run {F = F} (record { setting = setting_of f laws alloc c items is.is_input; choices = choices; is = is }) head names summary

@@ -1,12 +1,12 @@
 -- At the end of a run the own count of an instance in its tally is the number of lines of packets that it has processed, and it counts no more of others.
 use Rattle.run_headline.proofs.Words.{◌≡◌, ℕ, suc, ◌+◌, ◌<◌, ◌≤◌, Bool, true, false, cond, List, [], ◌∷◌, length, get_or, slice_index, refl, ap, ◌∙◌, subst}
-use Rattle.run_headline.proofs.Words.{arith, ◌==◌, filter, filter_map, min, Global, length-map, FunctionLaws, Semantics, Msg, Note, InstanceState, Choice}
-use Rattle.run_headline.proofs.Words.{Network, run, Config, Node, Instance, packets, dones_in, node_step, started_with, IsCompleted, done_in, Setting}
-use Rattle.run_headline.proofs.Words.{setting_of}
+use Rattle.run_headline.proofs.Words.{arith, ◌==◌, filter, filter_map, min, length-map, Msg, Note, InstanceState}
+use Rattle.run_headline.proofs.Words.{Network, run, Node, Instance, packets, dones_in, done_in}
 use Rattle.std.proofs.lemmas.List.Sums.{count_by-le-length, length-filter}
 use Rattle.nf_msgs.specs.declared.note.Note.TheVariants as note
 use Rattle.run_headline.proofs.OwnTallies.{done_at, most}
 use Rattle.run_headline.proofs.TallyRuns.{AtNode, IsTallied, run_tallied}
+use Rattle.run_headline.proofs.CompletedRuns.{CompletedRun, world_of}
 
 -- there are as many lines as packets that were processed
 lines_done : (log : List Note) → length (filter_map done_in log) ≡ length (dones_in log)
@@ -17,13 +17,12 @@ lines_done (n ∷ log) = lines_done log
 few_pass : {X : Type 0} (p : X → Bool) (xs : List X) → length (filter p xs) ≤ length xs
 few_pass p xs = let kept = length-filter p xs in let few = count_by-le-length p xs in omega (arith, kept, few)
 
-module _ {R : Type 0} (F : Type 0) (f : Semantics R) (laws : FunctionLaws f) (alloc : Global) (c : Config) (items : List Msg) (choices : List Choice)
-    (is : IsCompleted F f alloc c items choices) where
-  abbrev setting : Setting F R
-  setting = setting_of f laws alloc c items is.is_input
+module _ {F R : Type 0} (completed : CompletedRun F R) where
+  open completed use {setting, choices, is}
+  open setting use {function as f, config as c, items}
 
   abbrev w : Network (Node F R) Msg Note
-  w = run (node_step f) choices (started_with alloc c items)
+  w = world_of setting choices
 
   -- what the tally of an instance counts
   pub record HasCounts (i : ℕ) (x : InstanceState F R) : Type 0 where
