@@ -48,7 +48,7 @@ pub use Rattle.run_headline.specs.Subject.{Subject}
 pub use Rattle.run_headline.specs.nf_net.proofs.length.ShortRuns.{short_runs}
 pub use Rattle.run_headline.specs.nf_net.specs.Promises.{Completed, Promises}
 pub use Rattle.run_headline.specs.nf_net.specs.declared.course.AuditFault.{AuditFault}
-pub use Rattle.run_headline.specs.nf_net.proofs.Words.{setting_of}
+pub use Rattle.run_headline.specs.nf_net.specs.proof_outlines.proofs.joined.Setting.{setting_of}
 pub use Rattle.run_headline.specs.run_report.specs.Lines.{report_text}
 pub use Rattle.run_headline.specs.standby_failover.specs.Causes.{first_of, world_after}
 pub use Rattle.trace_reader.specs.Records.{AreNumbered}
