@@ -4,7 +4,8 @@ use Rattle.network_calls.proofs.Words.{MatchResult, Global, Packet, Kind, Functi
 use Rattle.network_calls.proofs.Words.{Network, run, Config, Node, IsInput, commands, packets, job_of, node_ended, node_step, Completed, Promises, LeadsTo}
 use Rattle.network_calls.proofs.Words.{choices_of, started_with, answer_in, AuditFault, Head, by_number, output_in, report_text, Subject, subject, Made}
 use Rattle.network_calls.proofs.Words.{Status, OfKind, Scenario, HasRun, IsRunOf, config_for, head_for, items_for, run_given, subject_for, audit_status, gives}
-use Rattle.network_calls.proofs.Words.{packets_in}
+use Rattle.network_calls.proofs.Words.{packets_in, IfOk-weaker}
+use Rattle.std.specs.Prelude.{IfOk}
 use Rattle.actor_net.specs.Network.{is_done}
 use Rattle.journal_file.proofs.HeaderReads.{journal_again}
 use Rattle.net_world.specs.Jobs.{course_of}
@@ -19,6 +20,10 @@ use Rattle.network_calls.specs.RunSteps.{IsRefusedAs, IsRefusedRun}
 use Rattle.function_kinds.proofs.FunctionLemmas.{from_kind, of_kind}
 use Rattle.network_calls.proofs.LoggedNumbers.{answer_numbers, out_numbers}
 use Rattle.call_files.specs.run_input.proofs.SaidCommands.{end_is_last}
+
+-- what holds of what a run makes holds of the answer that gives it
+pub made_holds : {E : Type 0} (P : Made → Type 0) (made : Made) (r : Result Made E) → P made → IfOk r (λ m. m ≡ made) → IfOk r P
+made_holds P made r holds = IfOk-weaker r (λ m. m ≡ made) P (λ m same. subst P (sym same) holds)
 
 -- what a run is of, by the items and by the capture
 pub same_subject : {R : Type 0} (F : Type 0) (f : Semantics R) (s : NetworkAsked) (g : Scenario)

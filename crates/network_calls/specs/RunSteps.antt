@@ -1,6 +1,10 @@
--- Steps between code and definition, which nobody has to believe: a network before its start, what can be shared, and why choices give no report.
-use Rattle.std.specs.Prelude.{◌≡◌, ◌≤◌, ℕ, List, length}
+-- Steps between code and definition, which nobody has to believe: a network before its start, what was read and can be shared, and why choices give no report.
+use Rattle.std.specs.Prelude.{◌≡◌, ◌≤◌, ℕ, true, All, List, length}
 use Rattle.flow_filter.specs.Limits.{most_packets}
+use Rattle.flow_filter.specs.Packet.{IsInRange}
+use Rattle.flow_filter.specs.declared.packet.Packet.{Packet}
+use Rattle.trace_reader.specs.Records.{AreNumbered}
+use Rattle.trace_reader.specs.Steered.{is_steered_proto}
 use Rattle.net_world.specs.Input.{IsInput}
 use Rattle.net_world.specs.Length.{IsShort}
 use Rattle.actor_net.specs.declared.choice.Choice.{Choice}
@@ -31,6 +35,13 @@ pub record IsOpening (s : NetworkAsked) (scenario : Scenario) (opening : Opening
   pub head : opening.head ≡ head_for s scenario.captured
   pub is_input : IsInput s.kind opening.config opening.items.items
   pub short : IsShort opening.items.items
+
+-- packets as they are read from a capture: in the order of their numbers, with a transport that is steered, and no more than are read
+pub record AreRead (packets : List Packet) : Type 0 where
+  pub numbers : AreNumbered 1 packets
+  pub steered : All (λ packet. is_steered_proto packet.proto ≡ true) packets
+  pub in_range : All IsInRange packets
+  pub few : length packets ≤ most_packets
 
 -- strong sharing of captured packets, no more than are read
 pub record CanShare (s : StrongAsked) (scene : CaptureScene) : Type 0 where

@@ -34,14 +34,13 @@ pub fn run_failed(
         (λ made. HasFailover (fail_view asked.now) (scenario_of asked.now.network.site inputs) choices (reports made))
         (IsRefusedFailover (fail_view asked.now) (scenario_of asked.now.network.site inputs) choices) }
 {
-    let kind = asked.network.kind;
     let failed = Failed {
         alloc,
         asked,
         inputs,
         choices,
     };
-    for_kind(kind, failed)
+    for_kind(asked.network.kind, failed)
 }
 
 /// A failover, for any function.

@@ -43,14 +43,13 @@ pub fn run_scheduled(
     requires { CanBegin (network_view asked.now) (scenario_of asked.now.site inputs) }
     ensures { IfOk result (λ made. HasRun (network_view asked.now) (scenario_of asked.now.site inputs) (Some schedule) (gives (network_view asked.now) made)) }
 {
-    let kind = asked.kind;
     let scheduled = Scheduled {
         alloc,
         asked,
         inputs,
         schedule,
     };
-    for_kind(kind, scheduled)
+    for_kind(asked.kind, scheduled)
 }
 
 /// Runs the network by threads. What goes to other threads has to be known where the function is chosen, so this doesn't go through
@@ -85,14 +84,13 @@ pub fn run_told(
         (λ made. HasRun (network_view asked.now) (scenario_of asked.now.site inputs) None (gives (network_view asked.now) made) × (made.choices ≡ choices))
         (IsRefusedRun (network_view asked.now) (scenario_of asked.now.site inputs) choices) }
 {
-    let kind = asked.kind;
     let told = Told {
         alloc,
         asked,
         inputs,
         choices,
     };
-    for_kind(kind, told)
+    for_kind(asked.kind, told)
 }
 
 /// A run by a schedule, for any function.

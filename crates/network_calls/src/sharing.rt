@@ -1,11 +1,8 @@
 //! Strong sharing, for each function.
-ghost use Rattle.std.specs.Prelude.{◌≡◌, ◌≤◌, true, All, IfOk, length};
+ghost use Rattle.std.specs.Prelude.{◌≡◌, ◌≤◌, IfOk, length};
 ghost use Rattle.flow_filter.specs.Limits.{most_packets};
-ghost use Rattle.trace_reader.specs.Records.{AreNumbered};
-ghost use Rattle.trace_reader.specs.Steered.{is_steered_proto};
-ghost use Rattle.flow_filter.specs.Packet.{IsInRange};
 ghost use Rattle.command_words.specs.RequestViews.{strong_view};
-ghost use Rattle.network_calls.specs.RunSteps.{CanShare, made_with};
+ghost use Rattle.network_calls.specs.RunSteps.{AreRead, CanShare, made_with};
 ghost use Rattle.call_files.specs.Phases.{reports};
 ghost use Rattle.strong_share.specs.Report.{strong_text};
 ghost use Rattle.network_calls.specs.StrongRuns.{HasSharing, IsSharingHead, IsSharingOf, sharing_scene};
@@ -28,21 +25,17 @@ pub fn run_sharing(
     trace: Trace,
     schedule: Schedule,
 ) -> Result<Made, NoMemory>
-    requires numbers { AreNumbered 1 trace.packets }
-    requires steered { All (λ packet. is_steered_proto packet.proto ≡ true) trace.packets }
-    requires in_range { All IsInRange trace.packets }
-    requires few { length trace.packets ≤ most_packets }
+    requires { AreRead trace.packets }
     ensures { IfOk result (λ made. HasSharing (strong_view asked.now) (sharing_scene asked.now trace) schedule (reports made)) }
 {
     are_in_range(asked.site, asked.filter);
-    let kind = asked.kind;
     let sharing = Sharing {
         alloc,
         asked,
         trace,
         schedule,
     };
-    for_kind(kind, sharing)
+    for_kind(asked.kind, sharing)
 }
 
 /// Strong sharing, for any function.

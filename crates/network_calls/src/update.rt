@@ -1,14 +1,10 @@
 //! A two-phase update, for each function.
-ghost use Rattle.std.specs.Prelude.{◌≡◌, ◌≤◌, true, All, IfOk, length};
-ghost use Rattle.flow_filter.specs.Limits.{most_packets};
-ghost use Rattle.trace_reader.specs.Records.{AreNumbered};
-ghost use Rattle.trace_reader.specs.Steered.{is_steered_proto};
-ghost use Rattle.flow_filter.specs.Packet.{IsInRange};
+ghost use Rattle.std.specs.Prelude.{◌≡◌, IfOk};
 ghost use Rattle.command_words.specs.RequestViews.{published_view};
 ghost use Rattle.two_phase.specs.Report.{two_text};
 ghost use Rattle.two_phase.specs.Start.{IsUpdateJob};
 ghost use Rattle.call_files.specs.Phases.{reports};
-ghost use Rattle.network_calls.specs.RunSteps.{made_with};
+ghost use Rattle.network_calls.specs.RunSteps.{AreRead, made_with};
 ghost use Rattle.network_calls.specs.UpdateRuns.{HasUpdate, IsUpdateOf, scene_of, update_for};
 
 use crate::ranges::are_in_range;
@@ -29,21 +25,17 @@ pub fn run_update(
     trace: Trace,
     schedule: Schedule,
 ) -> Result<Made, NoMemory>
-    requires numbers { AreNumbered 1 trace.packets }
-    requires steered { All (λ packet. is_steered_proto packet.proto ≡ true) trace.packets }
-    requires in_range { All IsInRange trace.packets }
-    requires few { length trace.packets ≤ most_packets }
+    requires { AreRead trace.packets }
     ensures { IfOk result (λ made. HasUpdate (published_view asked.now) (scene_of asked.now trace) schedule (reports made)) }
 {
     are_in_range(asked.site, asked.filter);
-    let kind = asked.kind;
     let updating = Updating {
         alloc,
         asked,
         trace,
         schedule,
     };
-    for_kind(kind, updating)
+    for_kind(asked.kind, updating)
 }
 
 /// An update, for any function.

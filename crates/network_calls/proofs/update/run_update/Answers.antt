@@ -1,14 +1,10 @@
 -- The function that the words name is the one that runs, over what was read.
-use Rattle.network_calls.proofs.Words.{refl, published_view, are_steered, reports, IsUpdateOf, scene_of, ok_of_kind}
+use Rattle.network_calls.proofs.Words.{refl, published_view, reports, IsUpdateOf, scene_of, ok_of_kind}
 use Rattle.network_calls.proofs.CapturedJobs.{is_update}
 use Rattle.network_calls.proofs.update.run_update.Goals as goal
 
 pub for_kind-requires : goal.for_kind-requires
-for_kind-requires c = (
-  refl,
-  is_update c.args.asked.now c.args.trace c.are_in_range.ensures.site c.are_in_range.ensures.filter c.requires.numbers
-      (are_steered c.args.asked.now.site c.args.trace.packets c.are_in_range.ensures.site c.requires.steered c.requires.in_range) c.requires.few,
-)
+for_kind-requires c = (refl, is_update c.args.asked.now c.args.trace c.are_in_range.ensures.site c.are_in_range.ensures.filter c.requires)
 
 pub returns : goal.returns
 returns c =

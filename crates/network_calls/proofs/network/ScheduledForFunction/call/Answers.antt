@@ -1,7 +1,7 @@
 -- The run of a schedule is that of the words, the script and the capture. The schedule comes to its end.
-use Rattle.network_calls.proofs.Words.{Some, ap, refl, rules, sym, ◌≡◌, ◌∙◌, subst, IfOk-weaker, Kind, network_view, setting_of, short_runs, IsInput, LeadsTo}
+use Rattle.network_calls.proofs.Words.{Some, ap, refl, rules, sym, ◌≡◌, ◌∙◌, subst, Kind, network_view, setting_of, short_runs, IsInput, LeadsTo}
 use Rattle.network_calls.proofs.Words.{choices_of, started_with, gives, scenario_of, report_text, IsRunOf, run_given, made_with}
-use Rattle.network_calls.proofs.RunLemmas.{run_of}
+use Rattle.network_calls.proofs.RunLemmas.{made_holds, run_of}
 use Rattle.network_calls.proofs.RunsEnd.{never_stops}
 use Rattle.network_calls.proofs.network.ScheduledForFunction.call.Goals as goal
 
@@ -24,9 +24,8 @@ returns g c =
     let s = network_view c.args.self.asked.now in
     let scenario = scenario_of c.args.self.asked.now.site c.args.self.inputs in
     let text = report_text f opening.head s.summary c.in-Ok.ended.0 in
-    IfOk-weaker c.report_run.result (λ made. made ≡ made_with c.in-Ok.ended.1 text)
-    (λ made. IsRunOf (run_given g.row.F.Denot f s scenario) (Some c.args.self.schedule) (gives s made))
-    (λ made made_is. subst (λ m. IsRunOf (run_given g.row.F.Denot f s scenario) (Some c.args.self.schedule) (gives s m)) (sym made_is)
+    made_holds (λ made. IsRunOf (run_given g.row.F.Denot f s scenario) (Some c.args.self.schedule) (gives s made))
+    (made_with c.in-Ok.ended.1 text) c.report_run.result
     (run_of g.row.F.Denot f s scenario c.args.self.alloc opening.config opening.items.items opening.head is.config is.items g.met.F.Function.laws
     (Some c.args.self.schedule) (made_with c.in-Ok.ended.1 text) c.in-Ok.ended.0
     (record {
@@ -42,4 +41,4 @@ returns g c =
       input = is.is_input;
       kind = c.requires.0;
     }) (λ schedule same. let by : c.args.self.schedule ≡ schedule = cc in c.in-Ok.ensures.choices ∙ ap (λ k. choices_of {F = g.row.F.Denot} f start k) by)
-    is.head refl)) c.report_run.ensures
+    is.head refl) c.report_run.ensures

@@ -1,5 +1,5 @@
 -- The sharing of a schedule is that of the words and the capture. The schedule comes to its end.
-use Rattle.network_calls.proofs.Words.{◌≡◌, arith, refl, rules, subst, sym, IfOk-weaker, Kind, strong_view, reports, made_with, IsSharingOf, sharing_for}
+use Rattle.network_calls.proofs.Words.{◌≡◌, arith, refl, rules, subst, sym, Kind, strong_view, reports, made_with, IsSharingOf, sharing_for}
 use Rattle.network_calls.proofs.Words.{sharing_scene}
 use Rattle.strong_share.specs.Promises.{StrongCompleted, StrongEnds, StrongPromises}
 use Rattle.strong_share.specs.Report.{strong_text}
@@ -8,6 +8,7 @@ use Rattle.strong_share.specs.Start.{IsStrongJob, StrongJob, strong_start}
 use Rattle.run_headline.specs.StrongLaw.{IsStrongRun}
 use Rattle.run_headline.proofs.others.StrongTexts.{strong_law}
 use Rattle.network_calls.proofs.CapturedJobs.{same_sharing}
+use Rattle.network_calls.proofs.RunLemmas.{made_holds}
 use Rattle.network_calls.proofs.sharing.SharingForFunction.call.Goals as goal
 
 pub simulate_strong-ended-requires : goal.simulate_strong-ended-requires
@@ -55,6 +56,5 @@ returns g c =
       report = refl;
       headline = strong_law g.row.F.Denot f g.met.F.Function.laws s.names job c.in-Ok.ended.0 is c.in_ok-head.head c.in_ok-head.ensures.names;
     } in
-    IfOk-weaker c.report_sharing.result (λ made. made ≡ made_with c.in-Ok.ended.1 text)
-    (λ made. IsSharingOf g.row.F.Denot f s scene c.args.self.schedule (reports made))
-    (λ made made_is. subst (λ m. IsSharingOf g.row.F.Denot f s scene c.args.self.schedule (reports m)) (sym made_is) of) c.report_sharing.ensures
+    made_holds (λ made. IsSharingOf g.row.F.Denot f s scene c.args.self.schedule (reports made)) (made_with c.in-Ok.ended.1 text) c.report_sharing.result of
+    c.report_sharing.ensures

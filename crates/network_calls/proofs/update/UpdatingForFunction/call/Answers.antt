@@ -1,13 +1,14 @@
 -- The update of a schedule is that of the words and the capture. The schedule comes to its end.
-use Rattle.network_calls.proofs.Words.{◌≡◌, List, length, ap, refl, sym, subst, ◌∙◌, IfOk-weaker, Packet, Kind, published_view, MOST_CHOICES, scheduled_is_run}
+use Rattle.network_calls.proofs.Words.{refl, sym, subst, Kind, published_view, MOST_CHOICES, scheduled_is_run}
 use Rattle.network_calls.proofs.Words.{IsUpdateJob, reports, made_with, IsUpdateOf, scene_of, update_for}
 use Rattle.two_phase.specs.Report.{two_text}
 use Rattle.actor_net.specs.Network.{IsRun}
 use Rattle.two_phase.specs.Start.{two_start}
 use Rattle.two_phase.specs.Tables.{node_ended, node_ready, node_step}
-use Rattle.run_headline.specs.PublishedLaw.{IsTwoRun, two_subject}
+use Rattle.run_headline.specs.PublishedLaw.{IsTwoRun}
 use Rattle.run_headline.proofs.others.TwoHeadlines.{published_law}
 use Rattle.network_calls.specs.UpdateRuns.{update_head}
+use Rattle.network_calls.proofs.RunLemmas.{made_holds}
 use Rattle.network_calls.proofs.update.UpdatingForFunction.call.Goals as goal
 
 pub simulate_two-ended-requires : goal.simulate_two-ended-requires
@@ -22,9 +23,6 @@ returns g c =
     let trace = c.args.self.trace in
     let job = update_for p (scene_of c.args.self.asked.now trace) in
     let text = two_text f (update_head p trace) c.in-Ok.ended.0 in
-    let same_text : two_text f (record { kind = p.kind; window = p.window; packets = length c.items.result.now; skipped = trace.skipped; cut = trace.cut })
-    c.in-Ok.ended.0 ≡ text = ap (λ (l : List Packet). two_text f
-    (record { kind = p.kind; window = p.window; packets = length l; skipped = trace.skipped; cut = trace.cut }) c.in-Ok.ended.0) c.items.ensures in
     let is : IsTwoRun g.row.F.Denot f job c.in-Ok.ended.0 = record {
       is_job = subst (λ (k : Kind). IsUpdateJob k job) (sym c.requires.0) c.requires.1;
       alloc = c.args.self.alloc;
@@ -44,7 +42,5 @@ returns g c =
       report = refl;
       headline = published_law g.row.F.Denot f g.met.F.Function.laws job c.in-Ok.ended.0 is (update_head p trace);
     } in
-    IfOk-weaker c.report_update.result (λ made. made ≡ made_with c.in-Ok.ended.1 _)
-    (λ made. IsUpdateOf g.row.F.Denot f p (scene_of c.args.self.asked.now trace) c.args.self.schedule (reports made))
-    (λ made made_is. subst (λ m. IsUpdateOf g.row.F.Denot f p (scene_of c.args.self.asked.now trace) c.args.self.schedule (reports m))
-    (sym (made_is ∙ ap (made_with c.in-Ok.ended.1) same_text)) of) c.report_update.ensures
+    made_holds (λ made. IsUpdateOf g.row.F.Denot f p (scene_of c.args.self.asked.now trace) c.args.self.schedule (reports made))
+    (made_with c.in-Ok.ended.1 text) c.report_update.result of (rw c.items.ensures at c.report_update.ensures)
